@@ -1,0 +1,59 @@
+-- Laws of the Boolean tests: into and out of `&&`, `||` and `not`; tests of two numbers as cases.
+-- A test is explicit in each law: `T` computes, so nothing shows which test it was.
+use mathlib.Core.Bool.{Bool, true, false, not, _&&_, _||_}
+use mathlib.Core.Logic.{_⊎_, inl, inr, _↔_, _≢_}
+use mathlib.Core.Path.{_≡_, refl}
+use Prim.Native.Nat.{ℕ, _<_, _≤_}
+use lib.Dec.{T, eqb, eqb→eq, eqb-refl, ltb, ltb→lt, nltb→le, T-not}
+
+pub and-left : (a b : Bool) → T (a && b) → T a
+and-left true b h = tt
+and-left false b h = h
+
+pub and-right : (a b : Bool) → T (a && b) → T b
+and-right true b h = h
+and-right false b h = absurd h
+
+pub and-intro : (a b : Bool) → T a → T b → T (a && b)
+and-intro true b p q = q
+and-intro false b p q = p
+
+pub or-cases : (a b : Bool) → T (a || b) → T a ⊎ T b
+or-cases true b h = inl tt
+or-cases false b h = inr h
+
+pub or-left : (a b : Bool) → T a → T (a || b)
+or-left true b h = tt
+or-left false b h = absurd h
+
+pub or-right : (a b : Bool) → T b → T (a || b)
+or-right true b h = tt
+or-right false b h = h
+
+pub decide : (b : Bool) → T b ⊎ T (not b)
+decide true = inl tt
+decide false = inr tt
+
+-- a test that is asked only where another passes
+pub if-test : (a b : Bool) → T (not a || b) ↔ (T a → T b)
+if-test true b = (λ h t. h, λ f. f tt)
+if-test false b = (λ h t. absurd t, λ f. tt)
+
+-- two tests that pass in the same cases are equal
+pub test-equal : (a b : Bool) → (T a → T b) → (T b → T a) → a ≡ b
+test-equal true true f g = refl
+test-equal true false f g = absurd (f tt)
+test-equal false true f g = absurd (g tt)
+test-equal false false f g = refl
+
+pub equal? : (x y : ℕ) → (x ≡ y) ⊎ (x ≢ y)
+equal? x y = elim (decide (eqb x y)) [ inl h ↦ inl (eqb→eq x y h) | inr h ↦ inr (λ e. T-not (eqb x y) h (same e)) ]
+  where
+    same : x ≡ y → T (eqb x y)
+    same e = rw e (eqb-refl y)
+
+pub less? : (x y : ℕ) → (x < y) ⊎ (y ≤ x)
+less? x y = elim (decide (ltb x y)) [ inl h ↦ inl (ltb→lt x y h) | inr h ↦ inr (nltb→le x y h) ]
+
+-- `search booleans` goes into and out of conjunctions, and into disjunctions
+pub ruleset booleans = (and-left, and-right, and-intro, or-left, or-right)

@@ -1,0 +1,101 @@
+-- "The lowest-numbered worker whose next operation may run" (document 01, "Two runs"). In order: the first in the
+-- canonical order that can be added is of that worker; there is one such operation; one step of a walk; the greedy
+-- run is the run that lets the lowest-numbered worker go first, and there is one such run.
+use mathlib.Core.Path.{_≡_, refl, ap}
+use mathlib.Core.Bool.{Bool}
+use mathlib.Core.List.{List, [], _∷_, List·Memᴰ·head, List·Memᴰ·tail}
+use mathlib.Core.Option.{Option, none, some}
+use Prim.Native.Nat.{ℕ, zero, suc, _≤_}
+use native.Mathlib.Omega.{arith}
+use native.Mathlib.Nat.{le-refl}
+use lib.Dec.{T, T-not}
+use Rattle.runs.specs.Membership.{_∈_}
+use Rattle.runs.specs.Rule.{Rule, Monotone}
+use Rattle.runs.specs.Run.{Run}
+use Rattle.runs.specs.Steps.{Addable, Closed, done, addable}
+use Rattle.runs.specs.Greedy.{Preference, firstThat, foundThen, greedyFrom}
+use Rattle.runs.specs.Workers.{InTurn, count, earlier, Counted, Ascending, up-cons}
+use Rattle.runs.specs.Workers.{LowestAddable, LowestFirst, none-can, moves}
+use Rattle.runs.proofs.RunSteps.{addable-test}
+use Rattle.runs.proofs.GreedyRuns.{First, found, skip, first, first-passes, first-missing, greedy-from-closed}
+use Rattle.runs.proofs.Counts.{addable-next, counted-add, run-counted, earlier-injective}
+use Rattle.runs.proofs.CanonicalOrder.{ahead-worker}
+
+-- the first that passes in an ascending list is of the lowest worker of those that pass
+first-lowest : {worker : ℕ → ℕ} {p : ℕ → Bool} {l : List ℕ} {x : ℕ} → Ascending worker l → First p l (some x)
+    → (y : ℕ) → y ∈ l → T (p y) → worker x ≤ worker y
+first-lowest {worker} (up-cons up a) (found {x = z} h) y (List·Memᴰ·head e) k = rw e (le-refl (worker z))
+first-lowest (up-cons up a) (found h) y (List·Memᴰ·tail m) k = ahead-worker (up y m)
+first-lowest {p = p} (up-cons up a) (skip {x = z} n f) y (List·Memᴰ·head e) k = absurd (T-not (p z) n (rw e at k))
+first-lowest (up-cons up a) (skip n f) y (List·Memᴰ·tail m) k = first-lowest a f y m k
+
+module _ {worker : ℕ → ℕ} {R : Rule} (turn : InTurn R worker) where
+  -- the lowest-numbered worker that can move has one operation that can be added
+  pub lowest-same : {d : List ℕ} {x y : ℕ} → Counted worker d → LowestAddable worker R d x → LowestAddable worker R d y
+      → x ≡ y
+  lowest-same {d} {x} {y} c a b = earlier-injective worker x y same (cc (next (a .can), next (b .can), same))
+    where
+      same : worker x ≡ worker y
+      same = omega (arith, a .lowest (b .can), b .lowest (a .can))
+
+      next : {z : ℕ} → Addable R d z → earlier worker z ≡ count worker (worker z) d
+      next i = addable-next worker turn c i
+
+  -- so there is one run that lets the lowest-numbered worker go first
+  pub lowest-first-unique : {d s t : List ℕ} → Counted worker d → LowestFirst worker R d s → LowestFirst worker R d t
+      → s ≡ t
+  lowest-first-unique c (none-can e) (none-can f) = refl
+  lowest-first-unique c (none-can e) (moves a p) = absurd (e .none (a .can))
+  lowest-first-unique c (moves a p) (none-can e) = absurd (e .none (a .can))
+  lowest-first-unique c (moves {d = d} {s = s} {x = x} a p) (moves {s = t} {x = y} b q) =
+      let e = lowest-same c a b in
+      let r : LowestFirst worker R (x ∷ d) t = rw e q in
+      cc (lowest-first-unique (counted-add worker turn c (a .can)) p r)
+
+module _ {worker : ℕ → ℕ} {R : Rule} {order : List ℕ}
+    (up : Ascending worker order) (all : Preference (R .size) order) where
+  found-lowest : {d : List ℕ} {x : ℕ} → First (addable R d) order (some x) → LowestAddable worker R d x
+  found-lowest {d} {x} f = record { can = addable-test d x .0 (first-passes f); lowest = λ a. lowest a }
+    where
+      lowest : {y : ℕ} → Addable R d y → worker x ≤ worker y
+      lowest {y} a = first-lowest up f y (all .lists (a .below)) (addable-test d y .1 a)
+
+  -- the first in the canonical order that can be added is of the lowest-numbered worker that can move
+  pub first-addable-lowest : (d : List ℕ) {x : ℕ} → firstThat (addable R d) order ≡ some x → LowestAddable worker R d x
+  first-addable-lowest d e = found-lowest (rw e at (first (addable R d) order))
+
+  -- One step of a walk: the operation of the lowest-numbered worker that can move is the greedy run's next one.
+  pub greedy-step : InTurn R worker → (k : ℕ) {d : List ℕ} {x : ℕ} → Counted worker d → LowestAddable worker R d x
+      → greedyFrom R order (suc k) d ≡ x ∷ greedyFrom R order k (x ∷ d)
+  greedy-step turn k {d} {x} c a =
+      ap (λ (o : Option ℕ). foundThen o (λ z. greedyFrom R order k (z ∷ d)))
+      (go (firstThat (addable R d) order) (first (addable R d) order))
+    where
+      go : (o : Option ℕ) → First (addable R d) order o → o ≡ some x
+      go none f = absurd (first-missing f x (all .lists (a .can .below)) (addable-test d x .1 (a .can)))
+      go (some z) f = ap some (lowest-same turn c (found-lowest f) a)
+
+  greedy-lowest : (k : ℕ) (d : List ℕ) → Closed R (done d (greedyFrom R order k d))
+      → LowestFirst worker R d (greedyFrom R order k d)
+  greedy-lowest zero d c = none-can c
+  greedy-lowest (suc k) d c =
+      go (firstThat (addable R d) order) (first (addable R d) order) c (λ x. greedy-lowest k (x ∷ d))
+    where
+      next : ℕ → List ℕ
+      next x = greedyFrom R order k (x ∷ d)
+
+      go : (o : Option ℕ) → First (addable R d) order o → Closed R (done d (foundThen o next))
+          → ((x : ℕ) → Closed R (done (x ∷ d) (next x)) → LowestFirst worker R (x ∷ d) (next x))
+          → LowestFirst worker R d (foundThen o next)
+      go none f c h = none-can c
+      go (some x) f c h = moves (found-lowest f) (h x c)
+
+  -- Going on greedily from any run lets the lowest-numbered worker go first.
+  pub greedy-lowest-first : Monotone R → {r : List ℕ} → Run R r
+      → LowestFirst worker R (done [] r) (greedyFrom R order (R .size) (done [] r))
+  greedy-lowest-first mono {r} p = greedy-lowest (R .size) (done [] r) (greedy-from-closed mono all p)
+
+  -- And it is the only one that does.
+  pub lowest-first-greedy : Monotone R → InTurn R worker → {r s : List ℕ} → Run R r
+      → LowestFirst worker R (done [] r) s → s ≡ greedyFrom R order (R .size) (done [] r)
+  lowest-first-greedy mono turn p q = lowest-first-unique turn (run-counted mono turn p) q (greedy-lowest-first mono p)
