@@ -1,5 +1,6 @@
 -- The run that holds b back (document 01, "Two runs"): the largest run without b, then on to the end with b
--- allowed. It is complete, and a stands before b in it unless b must precede a.
+-- allowed. In order: it is complete, and a stands before b in it unless b must precede a; it is the run of document
+-- 01's rule, and the only one.
 use mathlib.Core.Path.{_≡_, refl, sym, ap}
 use mathlib.Core.List.{List, [], _++_}
 use mathlib.Core.Logic.{_≢_}

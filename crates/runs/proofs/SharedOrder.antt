@@ -28,15 +28,6 @@ upto-lacks {a = a} {b = b} {s = s} d r p = lacks-snoc (λ m. before-asymmetric (
     early m = rw (p .split) (before-append m here)
 
 module _ {R : Rule} (mono : Monotone R) where
-  -- a run without a, where a must precede b, lacks b, and so what b must precede: with or without a complete run
-  pub must-precede-chain : {a b e : ℕ} → a ≢ e → MustPrecede R a b → MustPrecede R b e → MustPrecede R a e
-  must-precede-chain {a} {b} {e} d p q = record { differ = d; outside = outside }
-    where
-      outside : (m : List ℕ) → MaximalWithout R a m → e ∉ m
-      outside m k i =
-          let t = maximal-without-exists mono b in
-          q .outside (t .0) (t .1) (maximal-without-contains mono (t .1) (k .is-run) (p .outside m k) .all i)
-
   -- b stands before a in some run: then b is in every maximal run without a
   before-inside : {a b : ℕ} {s m : List ℕ} → b ≢ a → Run R s → StandsBefore b a s → MaximalWithout R a m → b ∈ m
   before-inside {b = b} {m = m} d r p k = contained .all (Memᴰ·append-right (p .before) here)
@@ -87,12 +78,22 @@ module _ {R : Rule} (mono : Monotone R) where
         (must-precede-before i j p c complete)
         (must-precede-before j i q c complete)
 
+  -- a run without a, where a must precede b, lacks b, and so what b must precede: with or without a complete run
+  pub must-precede-chain : {a b e : ℕ} → a ≢ e → MustPrecede R a b → MustPrecede R b e → MustPrecede R a e
+  must-precede-chain {a} {b} {e} d p q = record { differ = d; outside = outside }
+    where
+      outside : (m : List ℕ) → MaximalWithout R a m → e ∉ m
+      outside m k i =
+          let t = maximal-without-exists mono b in
+          q .outside (t .0) (t .1) (maximal-without-contains mono (t .1) (k .is-run) (p .outside m k) .all i)
+
+  module _ {c : List ℕ} (complete : Complete R c) where
     pub must-precede-transitive : {a b e : ℕ} → a < R .size → b < R .size
         → MustPrecede R a b → MustPrecede R b e → MustPrecede R a e
     must-precede-transitive {a} {b} {e} i j p q = must-precede-chain differ p q
       where
         differ : a ≢ e
-        differ h = must-precede-asymmetric i j p (rw h q)
+        differ h = must-precede-asymmetric complete i j p (rw h q)
 
   -- ---- the test
 

@@ -34,6 +34,10 @@ pub worker-tests : (canonical parity 5 2 ≡ 0 ∷ 2 ∷ 4 ∷ 1 ∷ 3 ∷ [])
     × (earlier parity 4 ≡ 2)
 worker-tests = (refl, refl, refl, refl)
 
+-- One Post that two workers wait for: once it is let in, both can go on, and the lower-numbered one does.
+abbrev pub onePost : Rule
+onePost = record { size = 3; may = λ d x. eqb x 0 || mem 0 d }
+
 -- Runs: the empty list, and the Wait after worker 1's Post. No runs: an operation twice, a number too high, the Wait
 -- first, worker 0's Post before its Write.
 pub run-tests : (isRun twoPosts [] ≡ true)
@@ -54,7 +58,8 @@ pub count-tests : (count workerOf 0 (greedy (without twoPosts 0) order) ≡ 0)
     × (earlier workerOf 4 ≡ 1)
 count-tests = (refl, refl, refl, refl, refl, refl, refl)
 
--- the largest runs without 0 and without 4; must 0 precede 4, 1 precede 3, 2 precede 3, 3 precede 4; 0 held back
+-- the largest runs without 0 and without 4; must 0 precede 4, 1 precede 3, 2 precede 3, 3 precede 4; 0 held back, 4
+-- held back, and the one Post held back
 pub order-tests : (greedy (without twoPosts 0) order ≡ 2 ∷ 3 ∷ 4 ∷ [])
     × (greedy (without twoPosts 4) order ≡ 0 ∷ 1 ∷ 2 ∷ 3 ∷ [])
     × (mustPrecede twoPosts order 0 4 ≡ false)
@@ -62,4 +67,6 @@ pub order-tests : (greedy (without twoPosts 0) order ≡ 2 ∷ 3 ∷ 4 ∷ [])
     × (mustPrecede twoPosts order 2 3 ≡ false)
     × (mustPrecede twoPosts order 3 4 ≡ true)
     × (holdingBack twoPosts order 0 ≡ 2 ∷ 3 ∷ 4 ∷ 0 ∷ 1 ∷ [])
-order-tests = (refl, refl, refl, refl, refl, refl, refl)
+    × (holdingBack twoPosts order 4 ≡ 0 ∷ 1 ∷ 2 ∷ 3 ∷ 4 ∷ [])
+    × (holdingBack onePost (0 ∷ 1 ∷ 2 ∷ []) 0 ≡ 0 ∷ 1 ∷ 2 ∷ [])
+order-tests = (refl, refl, refl, refl, refl, refl, refl, refl, refl)
