@@ -1,6 +1,6 @@
 -- The theorems. Tools: Booleans, Members, Lengths. How a rule is put together: MonotoneTests, ProgramOrder.
 -- The theory: Exchange, MaximalRuns, RunsWithout, CarryOn, AnyOrder, Before, SharedOrder, HoldingBack.
--- The means against the definitions: RunSteps, GreedyRuns, Counts, Rows, CanonicalOrder, LowestWorker.
+-- The means against the definitions: RunSteps, GreedyRuns, Counts, Rows, CanonicalOrder, Places, LowestWorker.
 -- Example: one rule worked out.
 pub mod Booleans
 pub mod Members
@@ -18,6 +18,7 @@ pub mod AnyOrder
 pub mod Before
 pub mod SharedOrder
 pub mod Counts
+pub mod Places
 pub mod Rows
 pub mod LowestWorker
 pub mod HoldingBack

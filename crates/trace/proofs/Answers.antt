@@ -1,0 +1,114 @@
+-- What callers know of a file from the reader's answer. In order: the trace; the bytes; record k lies inside the file;
+-- what the answer says. Which refusal a file gets is in FirstNo, which numbers and places there are in Refusals.
+use mathlib.Core.List.{List, []}
+use mathlib.Core.Logic.{_↔_}
+use mathlib.Core.Path.{_≡_, refl, sym, ap, _∙_}
+use native.Mathlib.Omega.{arith}
+use Prim.Native.Nat.{ℕ, _+_, _<_, _≤_}
+use lib.ListN.{length, drop}
+use Rattle.trace.specs.declared.ReadAnswer.the-variants.{Read, Refused}
+use Rattle.trace.specs.Answer.{answerOf}
+use Rattle.trace.specs.Form.{Form, base, recordSize, start}
+use Rattle.trace.specs.Premises.{HoldsTrace}
+use Rattle.trace.specs.Questions.{operationIn}
+use Rattle.trace.specs.Reading.{Reading, refused, reads, reading, fileReading, traceOf}
+use Rattle.trace.specs.Trace.{Trace, size, operation}
+use Rattle.trace.specs.Writing.{bytesOf, WellFormed, Bytes}
+use Rattle.trace.proofs.ReadWrite.{header-says, reads-workers, reads-count, reads-admitted, reads-at}
+use Rattle.trace.proofs.ReadWrite.{reads-means}
+use Rattle.trace.proofs.Records.{start-inside}
+
+-- ---- the trace
+
+pub trace-reads : (bytes : List ℕ) (t : Trace) → fileReading bytes ≡ reads t → traceOf bytes ≡ t
+unfolding traceOf
+trace-reads bytes t e = rw e
+
+-- a refused file has no workers and no operations
+pub trace-refused : (bytes : List ℕ) (q k : ℕ) → fileReading bytes ≡ refused q k
+    → traceOf bytes ≡ record { workers = 0; operations = [] }
+unfolding traceOf
+trace-refused bytes q k e = rw e
+
+-- what a file that reads as a trace holds
+pub file-holds : (bytes : List ℕ) (t : Trace) → fileReading bytes ≡ reads t → HoldsTrace bytes (t .workers) (size t)
+unfolding fileReading
+file-holds bytes t e =
+    let s = trace-reads bytes t e in
+    let h = header-says base bytes t e in
+    let workers = reads-workers base bytes t e in
+    let count = reads-count base bytes t e in
+    record {
+      trace = e ∙ ap reads (sym s);
+      workers = rw s;
+      count = rw s;
+      some = omega (arith, h .some);
+      most = omega (arith, h .most);
+      few = omega (arith, h .few);
+      each = λ k l. rw s (reads-admitted base bytes t e k l);
+    }
+
+-- ---- the bytes
+
+-- A file reads as trace t exactly if it is the bytes of t, and t is well-formed.
+pub file-means : (bytes : List ℕ) (t : Trace) → Bytes bytes
+    → (fileReading bytes ≡ reads t) ↔ ((bytes ≡ bytesOf base t) × WellFormed t)
+unfolding fileReading
+file-means bytes t h = reads-means base bytes t h
+
+-- ---- record k
+
+-- operation k of the trace that a file reads as: its record lies inside the file, and it is what is written there
+pub record RecordOf (bytes : List ℕ) (k : ℕ) : Type 0 where
+  pub few : k < 1024
+  pub inside : start base k + recordSize base ≤ length bytes
+  pub same : operation (traceOf bytes) k ≡ operationIn (drop (start base k) bytes)
+
+-- the same of a trace, in any form
+pub reads-inside : (f : Form) (bytes : List ℕ) (t : Trace) → reading f bytes ≡ reads t → (k : ℕ) → k < size t
+    → start f k + recordSize f ≤ length bytes
+reads-inside f bytes t e k h =
+    omega (arith, start-inside f k (size t) h, rw (reads-count f bytes t e) at (header-says f bytes t e .whole))
+
+pub record-of : (bytes : List ℕ) (k : ℕ) → k < size (traceOf bytes) → RecordOf bytes k
+unfolding fileReading
+record-of bytes k h = go (fileReading bytes) refl
+  where
+    go : (r : Reading) → fileReading bytes ≡ r → RecordOf bytes k
+    go (refused q j) e = absurd (omega (arith, ap size (trace-refused bytes q j e)))
+    go (reads t) e =
+        let s = trace-reads bytes t e in
+        let l : k < size t = rw s at h in
+        record {
+          few = omega (arith, header-says base bytes t e .few, reads-count base bytes t e);
+          inside = reads-inside base bytes t e k l;
+          same = rw s (reads-at base bytes t e k l);
+        }
+
+-- ---- what the answer says
+
+answer-counts : (t : Trace) (p n : ℕ) → answerOf (reads t) ≡ Read p n → (t .workers ≡ p) × (size t ≡ n)
+unfolding answerOf
+answer-counts t p n z = (cc, cc)
+
+no-read : (q k p n : ℕ) → answerOf (refused q k) ≡ Read p n → ⊥
+unfolding answerOf
+no-read q k p n z = let y : _≡_ {A = ℕ} 0 1 = cc in omega arith
+
+-- the file reads as a trace of p workers and n operations
+pub answer-holds : (bytes : List ℕ) (p n : ℕ) → answerOf (fileReading bytes) ≡ Read p n → HoldsTrace bytes p n
+answer-holds bytes p n a = go (fileReading bytes) refl
+  where
+    go : (r : Reading) → fileReading bytes ≡ r → HoldsTrace bytes p n
+    go (refused q k) e = absurd (no-read q k p n (rw e at a))
+    go (reads t) e = let c = answer-counts t p n (rw e at a) in rw (c .0, c .1) at (file-holds bytes t e)
+
+-- the file is refused, with this number and place
+pub answer-refused : (bytes : List ℕ) (q k : ℕ) → answerOf (fileReading bytes) ≡ Refused q k
+    → fileReading bytes ≡ refused q k
+unfolding answerOf
+answer-refused bytes q k a = go (fileReading bytes) refl
+  where
+    go : (r : Reading) → fileReading bytes ≡ r → fileReading bytes ≡ refused q k
+    go (refused q′ k′) e = let b = rw e at a in cc
+    go (reads t) e = absurd (let b = rw e at a in let y : _≡_ {A = ℕ} 0 1 = cc in omega arith)

@@ -1,0 +1,26 @@
+-- What the functions of this crate and its callers know of a file that was not refused so far. Means: each premise
+-- follows from what was answered (proofs/ReaderSteps, proofs/Answers), so that none of them has to be believed.
+use mathlib.Core.List.{List}
+use mathlib.Core.Path.{_≡_}
+use Prim.Native.Nat.{ℕ, _<_, _≤_}
+use Rattle.trace.specs.Form.{Form}
+use Rattle.trace.specs.Questions.{operationIn, headerQuestion}
+use Rattle.trace.specs.Reading.{fileReading, reads, traceOf}
+use Rattle.trace.specs.Trace.{size, operation}
+use Rattle.trace.specs.Writing.{Admitted}
+
+-- questions 1 to 4 do not refuse the file, and its header has p and n
+pub record HoldsHeader (f : Form) (bytes : List ℕ) (p n : ℕ) : Type 0 where
+  pub passes : headerQuestion f bytes ≡ 0
+  pub workers : operationIn bytes .worker ≡ p
+  pub count : operationIn bytes .number ≡ n
+
+-- questions 1 to 9 do not refuse the file, and its trace has p workers and n operations
+pub record HoldsTrace (bytes : List ℕ) (p n : ℕ) : Type 0 where
+  pub trace : fileReading bytes ≡ reads (traceOf bytes)
+  pub workers : traceOf bytes .workers ≡ p
+  pub count : size (traceOf bytes) ≡ n
+  pub some : 1 ≤ p
+  pub most : p ≤ 16
+  pub few : n ≤ 1024
+  pub each : (k : ℕ) → k < n → Admitted p (operation (traceOf bytes) k)
