@@ -13,10 +13,11 @@ use lib.ListN.{length, drop, length-append}
 use lib.Seq.{drop-drop}
 use borrow.Author.Tests.{eqb-true, eqb-false, eq-eqb, ne-eqb}
 use Rattle.trace.specs.declared.Operation.{Operation}
-use Rattle.trace.specs.Form.{Form, recordSize, start}
+use Rattle.trace.specs.Form.{Form, recordSize}
 use Rattle.trace.specs.Questions.{operationIn, headerQuestion, recordQuestion}
 use Rattle.trace.specs.Reading.{refused, reading, readingFrom}
-use Rattle.trace.proofs.Records.{operationsIn, drop-records}
+use Rattle.trace.specs.Refusals.{operationsIn, fileQuestion, RefusedFirst, by-header, by-record}
+use Rattle.trace.proofs.Records.{drop-records}
 
 -- the question that record i is refused by, among the records that the bytes start with; 0 where none refuses it
 abbrev pub questionAt : Form → ℕ → List Operation → List ℕ → ℕ → ℕ
@@ -139,26 +140,14 @@ module _ (f : Form) (p : ℕ) where
 
 -- ---- the file
 
--- the question that the record of operation k is refused by; 0 where none refuses it
-abbrev pub fileQuestion : Form → List ℕ → ℕ → ℕ
-fileQuestion f bytes k =
-    recordQuestion f (operationIn bytes .worker) (operationsIn f k (drop (recordSize f) bytes)) (drop (start f k) bytes)
-
--- the header is refused, with place 0; or it passes, and record k is the first that is refused
-pub data RefusedFirst (f : Form) (bytes : List ℕ) (q k : ℕ) : Type 0 where
-  by-header : headerQuestion f bytes ≡ q → (q ≡ 0 → ⊥) → k ≡ 0 → RefusedFirst f bytes q k
-  by-record : headerQuestion f bytes ≡ 0 → k < operationIn bytes .number
-      → ((i : ℕ) → i < k → fileQuestion f bytes i ≡ 0) → fileQuestion f bytes k ≡ q → (q ≡ 0 → ⊥)
-      → RefusedFirst f bytes q k
-
 module _ (f : Form) (bytes : List ℕ) (q k : ℕ) where
   same-question : (i : ℕ)
       → questionAt f (operationIn bytes .worker) [] (drop (recordSize f) bytes) i ≡ fileQuestion f bytes i
   same-question i = rw (drop-drop (recordSize f * i) (recordSize f) bytes)
 
-  file-refused : reading f bytes ≡ refused q k → RefusedFirst f bytes q k
+  refused-forth : reading f bytes ≡ refused q k → RefusedFirst f bytes q k
   unfolding reading
-  file-refused e = go (eqb asked 0) refl
+  refused-forth e = go (eqb asked 0) refl
     where
       asked : ℕ
       asked = headerQuestion f bytes
@@ -178,10 +167,10 @@ module _ (f : Form) (bytes : List ℕ) (q k : ℕ) where
           let number : asked ≡ q = cc in
           by-header number (λ z. eqb-false asked 0 d (number ∙ z)) (cc)
 
-  refused-file : RefusedFirst f bytes q k → reading f bytes ≡ refused q k
+  refused-back : RefusedFirst f bytes q k → reading f bytes ≡ refused q k
   unfolding reading
-  refused-file (by-header asked some place) = simp (asked, ne-eqb q 0 some, place)
-  refused-file (by-record passes below each asked some) =
+  refused-back (by-header asked some place) = simp (asked, ne-eqb q 0 some, place)
+  refused-back (by-record passes below each asked some) =
       let header = operationIn bytes in
       let refuses = refused-records f (header .worker) (header .number) [] (drop (recordSize f) bytes) q k in
       simp (eq-eqb _ _ passes)
@@ -197,4 +186,4 @@ module _ (f : Form) (bytes : List ℕ) (q k : ℕ) where
 -- A file is refused, with number q and place k, exactly if the first "no" is question q's: of the header, with place
 -- 0, or of record k, where the header and the records before it pass.
 pub refused-means : (f : Form) (bytes : List ℕ) (q k : ℕ) → (reading f bytes ≡ refused q k) ↔ RefusedFirst f bytes q k
-refused-means f bytes q k = (file-refused f bytes q k, refused-file f bytes q k)
+refused-means f bytes q k = (refused-forth f bytes q k, refused-back f bytes q k)

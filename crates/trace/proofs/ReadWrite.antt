@@ -16,12 +16,13 @@ use Rattle.trace.specs.Form.{Form, recordSize, start}
 use Rattle.trace.specs.LittleEndian.{value, digits}
 use Rattle.trace.specs.Questions.{operationIn, marked, ranked, headerQuestion, recordQuestion}
 use Rattle.trace.specs.Reading.{Reading, refused, reads, reading, readingFrom}
+use Rattle.trace.specs.Refusals.{operationsIn}
 use Rattle.trace.specs.Trace.{Trace, size, operation, noOperation, rankAfter}
 use Rattle.trace.specs.Writing.{recordBytes, recordsBytes, bytesOf, header, Admitted, WellFormed, Bytes}
 use Rattle.trace.proofs.Answered.{both, answered-admitted, record-answered, HeaderAnswered, header-answered}
 use Rattle.trace.proofs.LittleEndian.{length-digits, digits-bytes, digits-value, value-below, tail-bytes}
 use Rattle.trace.proofs.LittleEndian.{drop-bytes}
-use Rattle.trace.proofs.Records.{operationsIn, length-operations, operations-at}
+use Rattle.trace.proofs.Records.{length-operations, operations-at}
 use Rattle.trace.proofs.WriteRead.{reading-bytes}
 
 -- ---- one step

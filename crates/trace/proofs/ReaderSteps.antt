@@ -19,8 +19,9 @@ use Rattle.trace.specs.LittleEndian.{value}
 use Rattle.trace.specs.Premises.{HoldsHeader}
 use Rattle.trace.specs.Questions.{operationIn, ranked, headerQuestion, recordQuestion}
 use Rattle.trace.specs.Reading.{Reading, reading, readingFrom}
+use Rattle.trace.specs.Refusals.{operationsIn}
 use Rattle.trace.proofs.Answered.{HeaderAnswered, header-answered}
-use Rattle.trace.proofs.Records.{start-inside, operationsIn, length-operations, operations-more}
+use Rattle.trace.proofs.Records.{start-inside, length-operations, operations-more}
 
 -- document 01's form has no rank field, so nothing is asked of it
 pub ranked-base : (r : ℕ) (bytes : List ℕ) → ranked base r bytes ≡ true

@@ -10,6 +10,7 @@ use lib.Seq.{drop-drop}
 use Rattle.trace.specs.declared.Operation.{Operation}
 use Rattle.trace.specs.Form.{Form, recordSize, start}
 use Rattle.trace.specs.Questions.{operationIn}
+use Rattle.trace.specs.Refusals.{operationsIn}
 use Rattle.trace.specs.Trace.{noOperation}
 
 -- the record of operation k lies inside a file of n operations
@@ -17,11 +18,6 @@ pub start-inside : (f : Form) (k n : ℕ) → k < n → start f k + recordSize f
 start-inside f k n h =
     let room : recordSize f * suc k ≤ recordSize f * n = mul-le-mul-left (recordSize f) h in
     omega (arith, room, mul-suc (recordSize f) k)
-
--- the operations written in the n records that the bytes start with
-unfoldable pub operationsIn : Form → ℕ → List ℕ → List Operation
-operationsIn f zero bytes = []
-operationsIn f (suc n) bytes = operationIn bytes ∷ operationsIn f n (drop (recordSize f) bytes)
 
 pub length-operations : (f : Form) (n : ℕ) (bytes : List ℕ) → length (operationsIn f n bytes) ≡ n
 unfolding operationsIn

@@ -5,17 +5,18 @@ use mathlib.Core.List.{List, [], _∷_}
 use mathlib.Core.Path.{_≡_, refl}
 use lib.ListN.{drop}
 use native.Mathlib.Omega.{arith}
-use Prim.Native.Nat.{ℕ, _<_, _≤_}
+use Prim.Native.Nat.{ℕ, _≤_}
 use Rattle.trace.specs.declared.Operation.{Operation}
 use Rattle.trace.specs.Form.{base, recordSize, start}
 use Rattle.trace.specs.Questions.{operationIn, ask, firstNo, marked, isHeader, workersFit, countFits, isWhole}
 use Rattle.trace.specs.Questions.{headerQuestion, workerKnown, kindKnown, eventFits, cellsFit}
 use Rattle.trace.specs.Questions.{recordQuestion}
 use Rattle.trace.specs.Reading.{refused, fileReading}
+use Rattle.trace.specs.Refusals.{operationsIn, RefusedFirst, by-header, by-record, Refusal, one-to-four}
+use Rattle.trace.specs.Refusals.{five-to-nine}
 use Rattle.trace.specs.Trace.{rankAfter}
-use Rattle.trace.proofs.FirstNo.{refused-means, RefusedFirst, by-header, by-record}
+use Rattle.trace.proofs.FirstNo.{refused-means}
 use Rattle.trace.proofs.ReaderSteps.{ranked-base}
-use Rattle.trace.proofs.Records.{operationsIn}
 
 four-questions : (a b c d : Bool) → firstNo (ask 1 a ∷ ask 2 b ∷ ask 3 c ∷ ask 4 d ∷ []) ≤ 4
 four-questions false b c d = omega arith
@@ -51,11 +52,6 @@ record-number p before bytes =
     let o = operationIn bytes in
     rw (ranked-base (rankAfter before o) bytes)
     (five-questions (marked base bytes) (workerKnown p o) (kindKnown o) (eventFits o) (cellsFit o))
-
--- a refusal in a file of n operations: by questions 1 to 4 with place 0, or by 5 to 9 with the number of an operation
-pub data Refusal (n q k : ℕ) : Type 0 where
-  one-to-four : 1 ≤ q → q ≤ 4 → k ≡ 0 → Refusal n q k
-  five-to-nine : 5 ≤ q → q ≤ 9 → k < n → Refusal n q k
 
 pub file-refused : (bytes : List ℕ) (q k : ℕ) → fileReading bytes ≡ refused q k
     → Refusal (operationIn bytes .number) q k

@@ -1,7 +1,7 @@
 -- The trace file. In the order in which to read it:
 -- LittleEndian, Form, Trace, Questions, Reading: what a file is, which questions it is asked, what reading it gives.
 -- Writing: the bytes of a trace, and which traces have a file. Answer: the reader's answer by document 01's numbers.
--- Premises: means. Examples: files worked out. The laws are in proofs/.
+-- Refusals: which refusal a file gets. Premises: means. Examples: files worked out. The laws are in proofs/.
 pub mod LittleEndian
 pub mod Form
 pub mod Trace
@@ -9,5 +9,6 @@ pub mod Questions
 pub mod Reading
 pub mod Writing
 pub mod Answer
+pub mod Refusals
 pub mod Premises
 pub mod Examples

@@ -1,0 +1,35 @@
+-- Which refusal a file gets, said without following the reader: by the first "no".
+-- Follows: document 01, "The questions": "asked in this order; the first 'no' gives its number", "then record by record
+-- in file order"; "a refusal is the number and a place: the operation number for 5 to 9", otherwise 0.
+-- Differs: the form is a parameter. proofs/FirstNo shows that reading refuses exactly so.
+use mathlib.Core.List.{List, [], _∷_}
+use mathlib.Core.Path.{_≡_}
+use Prim.Native.Nat.{ℕ, zero, suc, _<_, _≤_}
+use lib.ListN.{drop}
+use Rattle.trace.specs.declared.Operation.{Operation}
+use Rattle.trace.specs.Form.{Form, recordSize, start}
+use Rattle.trace.specs.Questions.{operationIn, headerQuestion, recordQuestion}
+
+-- the operations written in the n records that the bytes start with
+unfoldable pub operationsIn : Form → ℕ → List ℕ → List Operation
+operationsIn f zero bytes = []
+operationsIn f (suc n) bytes = operationIn bytes ∷ operationsIn f n (drop (recordSize f) bytes)
+
+-- the number of the question that refuses the record of operation k; 0 where none does
+abbrev pub fileQuestion : Form → List ℕ → ℕ → ℕ
+fileQuestion f bytes k =
+    recordQuestion f (operationIn bytes .worker) (operationsIn f k (drop (recordSize f) bytes)) (drop (start f k) bytes)
+
+-- question q refuses the header, and the place is 0; or the header passes, so do the records before k, and question q
+-- refuses the record of operation k
+pub data RefusedFirst (f : Form) (bytes : List ℕ) (q k : ℕ) : Type 0 where
+  by-header : headerQuestion f bytes ≡ q → (q ≡ 0 → ⊥) → k ≡ 0 → RefusedFirst f bytes q k
+  by-record : headerQuestion f bytes ≡ 0 → k < operationIn bytes .number
+      → ((i : ℕ) → i < k → fileQuestion f bytes i ≡ 0) → fileQuestion f bytes k ≡ q → (q ≡ 0 → ⊥)
+      → RefusedFirst f bytes q k
+
+-- the refusals that a file of n operations can get: by questions 1 to 4 with place 0, or by 5 to 9 with the number of
+-- an operation
+pub data Refusal (n q k : ℕ) : Type 0 where
+  one-to-four : 1 ≤ q → q ≤ 4 → k ≡ 0 → Refusal n q k
+  five-to-nine : 5 ≤ q → q ≤ 9 → k < n → Refusal n q k
