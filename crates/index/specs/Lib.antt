@@ -1,3 +1,3 @@
--- The index of a file's operations by worker: Indexed. Examples: one trace worked out. The laws are in proofs/.
+-- The index of a file's operations by worker, a means: Indexed. Examples: one trace worked out. Laws are in proofs/.
 pub mod Indexed
 pub mod Examples

@@ -1,5 +1,5 @@
 -- Laws of "stands before". In order: at the front of a list; both stand in it; across `_++_`; of two different
--- operations of a list one stands before the other, and where no operation stands twice not both.
+-- operations of a list one stands before the other, and where no operation stands twice not both; what stands before x.
 use mathlib.Core.Path.{_≡_, refl, sym, _∙_, ap}
 use mathlib.Core.List.{List, [], _∷_, _++_, List·Memᴰ·head, List·Memᴰ·tail, Memᴰ·append-right}
 use mathlib.Core.Logic.{_⊎_, inl, inr, _≢_}
@@ -60,3 +60,15 @@ before-asymmetric {a} {b} (fresh {x = x} {l = l} n d) p q = go (before-cases p) 
     go (inl i) (inr j) f = n (rw (i .0) at (before-second j))
     go (inr i) (inl j) f = n (rw (j .0) at (before-second i))
     go (inr i) (inr j) f = f i j
+
+-- where no operation stands twice, what stands before x is what lies in front of it
+pub before-front : (u v : List ℕ) {r : List ℕ} {x y : ℕ} → r ≡ u ++ x ∷ v → Different r → StandsBefore y x r → y ∈ u
+before-front u v {x = x} {y = y} e d p = go u (rw e at d) (rw e at p)
+  where
+    go : (u : List ℕ) → Different (u ++ x ∷ v) → StandsBefore y x (u ++ x ∷ v) → y ∈ u
+    go [] (fresh n d) p = absurd (elim (before-cases p) [ inl i ↦ n (i .1) | inr q ↦ n (before-second q) ])
+    go (z ∷ u) (fresh n d) p = elim (before-cases p) [ inl i ↦ List·Memᴰ·head (i .0) | inr q ↦ there (go u d q) ]
+
+-- and all of that does
+pub front-before : (u v : List ℕ) {r : List ℕ} {x y : ℕ} → r ≡ u ++ x ∷ v → y ∈ u → StandsBefore y x r
+front-before u v e m = rw e (before-append m here)

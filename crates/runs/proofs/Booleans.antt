@@ -4,6 +4,7 @@ use mathlib.Core.Bool.{Bool, true, false, not, _&&_, _||_}
 use mathlib.Core.Logic.{_⊎_, inl, inr, _↔_, _≢_}
 use mathlib.Core.Path.{_≡_, refl}
 use Prim.Native.Nat.{ℕ, _<_, _≤_}
+use native.Mathlib.Omega.{arith}
 use lib.Dec.{T, eqb, eqb→eq, eqb-refl, ltb, ltb→lt, nltb→le, T-not}
 
 pub and-left : (a b : Bool) → T (a && b) → T a
@@ -34,6 +35,14 @@ pub decide : (b : Bool) → T b ⊎ T (not b)
 decide true = inl tt
 decide false = inr tt
 
+-- a test as an equation
+pub test-true : (b : Bool) → (b ≡ true) ↔ T b
+test-true b = (λ e. rw e tt, go b)
+  where
+    go : (b : Bool) → T b → b ≡ true
+    go true h = refl
+    go false h = absurd h
+
 -- a test that is asked only where another passes
 pub if-test : (a b : Bool) → T (not a || b) ↔ (T a → T b)
 if-test true b = (λ h t. h, λ f. f tt)
@@ -45,6 +54,10 @@ test-equal true true f g = refl
 test-equal true false f g = absurd (f tt)
 test-equal false true f g = absurd (g tt)
 test-equal false false f g = refl
+
+-- 0 is not 1: what `cc` makes of an equation between two constructors
+pub zero-one : _≡_ {A = ℕ} 0 1 → ⊥
+zero-one e = omega arith
 
 pub equal? : (x y : ℕ) → (x ≡ y) ⊎ (x ≢ y)
 equal? x y = elim (decide (eqb x y)) [ inl h ↦ inl (eqb→eq x y h) | inr h ↦ inr (λ e. T-not (eqb x y) h (same e)) ]

@@ -9,7 +9,7 @@ use Rattle.runs.specs.Membership.{_⊆_, mem, allOf, anyOf, upTo}
 use Rattle.runs.specs.Rule.{Rule, Monotone}
 use Rattle.runs.specs.Workers.{turn}
 use Rattle.runs.proofs.Booleans.{booleans, or-cases}
-use Rattle.runs.proofs.Members.{mem-test}
+use Rattle.runs.proofs.Members.{mem-test, any-test}
 
 pub record Grows (f : List ℕ → Bool) : Type 0 where
   pub keeps : (d e : List ℕ) → d ⊆ e → T (f d) → T (f e)
@@ -50,6 +50,13 @@ grows-all g (x ∷ l) = grows-and (g x) (grows-all g l)
 pub grows-any : {f : List ℕ → ℕ → Bool} → ((x : ℕ) → Grows (λ d. f d x)) → (l : List ℕ) → Grows (λ d. anyOf (f d) l)
 grows-any g [] = grows-fixed false
 grows-any g (x ∷ l) = grows-or (g x) (grows-any g l)
+
+-- a fixed test of some operation that is done
+pub grows-done : (p : ℕ → Bool) → Grows (anyOf p)
+grows-done p = record { keeps = keeps }
+  where
+    keeps : (d e : List ℕ) → d ⊆ e → T (anyOf p d) → T (anyOf p e)
+    keeps d e s h = let t = any-test p d .0 h in any-test p e .1 (t .0, s .all (t .1), t .2)
 
 -- program order
 pub grows-turn : (worker : ℕ → ℕ) (x : ℕ) → Grows (λ d. turn worker d x)

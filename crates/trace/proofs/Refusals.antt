@@ -2,6 +2,7 @@
 -- Which refusal a file gets is in FirstNo.
 use mathlib.Core.Bool.{Bool, true, false}
 use mathlib.Core.List.{List, [], _∷_}
+use mathlib.Core.Logic.{_↔_}
 use mathlib.Core.Path.{_≡_, refl}
 use lib.ListN.{drop}
 use native.Mathlib.Omega.{arith}
@@ -12,8 +13,8 @@ use Rattle.trace.specs.Questions.{operationIn, ask, firstNo, marked, isH
 use Rattle.trace.specs.Questions.{headerQuestion, workerKnown, kindKnown, eventFits, cellsFit}
 use Rattle.trace.specs.Questions.{recordQuestion}
 use Rattle.trace.specs.Reading.{refused, fileReading}
-use Rattle.trace.specs.Refusals.{operationsIn, RefusedFirst, by-header, by-record, Refusal, one-to-four}
-use Rattle.trace.specs.Refusals.{five-to-nine}
+use Rattle.trace.specs.Refusals.{operationsIn, RefusedFirst, by-header, by-record, FileRefusedFirst}
+use Rattle.trace.specs.Refusals.{Refusal, one-to-four, five-to-nine}
 use Rattle.trace.specs.Trace.{rankAfter}
 use Rattle.trace.proofs.FirstNo.{refused-means}
 use Rattle.trace.proofs.ReaderSteps.{ranked-base}
@@ -52,6 +53,11 @@ record-number p before bytes =
     let o = operationIn bytes in
     rw (ranked-base (rankAfter before o) bytes)
     (five-questions (marked base bytes) (workerKnown p o) (kindKnown o) (eventFits o) (cellsFit o))
+
+-- a file is refused by the first "no", and only so
+pub file-refused-first : (bytes : List ℕ) (q k : ℕ) → (fileReading bytes ≡ refused q k) ↔ FileRefusedFirst bytes q k
+unfolding fileReading FileRefusedFirst
+file-refused-first bytes q k = refused-means base bytes q k
 
 pub file-refused : (bytes : List ℕ) (q k : ℕ) → fileReading bytes ≡ refused q k
     → Refusal (operationIn bytes .number) q k

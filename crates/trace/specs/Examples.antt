@@ -1,6 +1,7 @@
 -- Files and what reading them gives, computed: each question at its limits, in the header and in two records; a form
 -- with a rank field; trace A read and written, its ranks and one worker's operations.
 -- Follows: document 01, "Examples": A, E and G; the others are the limits of each question.
+-- Differs: nowhere.
 use mathlib.Core.List.{List, [], _∷_, map}
 use mathlib.Core.Path.{_≡_, refl}
 use Prim.Native.Nat.{ℕ}

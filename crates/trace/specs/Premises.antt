@@ -1,5 +1,7 @@
--- What the functions of this crate and its callers know of a file that was not refused so far. Means: each premise
--- follows from what was answered (proofs/ReaderSteps, proofs/Answers), so that none of them has to be believed.
+-- What the functions of this crate and its callers know of a file that was not refused so far.
+-- Follows: document 01, "The questions", in what passing them means.
+-- Differs: nowhere. Means: each premise follows from what was answered (proofs/ReaderSteps, proofs/Answers), so that
+-- none of them has to be believed.
 use mathlib.Core.List.{List}
 use mathlib.Core.Path.{_≡_}
 use Prim.Native.Nat.{ℕ, _<_, _≤_}

@@ -7,7 +7,7 @@ use mathlib.Core.Path.{_≡_}
 use Prim.Native.Nat.{ℕ, zero, suc, _<_, _≤_}
 use lib.ListN.{drop}
 use Rattle.trace.specs.declared.Operation.{Operation}
-use Rattle.trace.specs.Form.{Form, recordSize, start}
+use Rattle.trace.specs.Form.{Form, base, recordSize, start}
 use Rattle.trace.specs.Questions.{operationIn, headerQuestion, recordQuestion}
 
 -- the operations written in the n records that the bytes start with
@@ -27,6 +27,10 @@ pub data RefusedFirst (f : Form) (bytes : List ℕ) (q k : ℕ) : Type 0 where
   by-record : headerQuestion f bytes ≡ 0 → k < operationIn bytes .number
       → ((i : ℕ) → i < k → fileQuestion f bytes i ≡ 0) → fileQuestion f bytes k ≡ q → (q ≡ 0 → ⊥)
       → RefusedFirst f bytes q k
+
+-- the same of a file; document 01 has one form
+unfoldable pub FileRefusedFirst : List ℕ → ℕ → ℕ → Type 0
+FileRefusedFirst bytes q k = RefusedFirst base bytes q k
 
 -- the refusals that a file of n operations can get: by questions 1 to 4 with place 0, or by 5 to 9 with the number of
 -- an operation

@@ -1,0 +1,37 @@
+-- Questions 1 to 10 of a file: which files are accepted, and what the call answers.
+-- Follows: document 01, "The questions". The enum is that of src/lib.rt.
+-- Differs: question 10 is asked of what is computed, `firstOutside`. That a file which questions 1 to 9 let pass is
+-- refused 10 exactly if its trace has no complete run, and that the place is the lowest operation outside every largest
+-- run, is shown in proofs/Questions.
+use mathlib.Core.Bool.{cond}
+use mathlib.Core.List.{List}
+use mathlib.Core.Path.{_≡_}
+use Prim.Native.Nat.{ℕ}
+use lib.Dec.{ltb}
+use Rattle.trace.specs.Reading.{Reading, refused, reads, fileReading}
+use Rattle.trace.specs.Trace.{Trace, size}
+use Rattle.model.specs.Computed.{firstOutside}
+use Rattle.accept.specs.declared.AcceptAnswer.{AcceptAnswer}
+use Rattle.accept.specs.declared.AcceptAnswer.the-variants.{Accepted, Refused}
+
+-- 10. "Has the trace a complete run?" If not, the place is "the lowest operation number outside the largest run".
+abbrev pub askCompleteRun : Reading → Reading
+askCompleteRun (refused q k) = refused q k
+askCompleteRun (reads t) = let k = firstOutside t in cond (ltb k (size t)) (refused 10 k) (reads t)
+
+-- questions 1 to 10: the refusal by the first "no", or the trace
+unfoldable pub acceptance : List ℕ → Reading
+acceptance bytes = askCompleteRun (fileReading bytes)
+
+-- document 01: "A file and its trace are accepted when no question up to 10, in the order asked, refuses the file."
+pub record AcceptedTrace (bytes : List ℕ) (t : Trace) : Type 0 where
+  pub passes : acceptance bytes ≡ reads t
+
+-- `Refused`: the number and the place. `Accepted`: the worker count p and the operation count n
+abbrev pub answerOf : Reading → AcceptAnswer
+answerOf (refused number place) = Refused number place
+answerOf (reads t) = Accepted (t .workers) (size t)
+
+-- what the call answers
+unfoldable pub acceptAnswer : List ℕ → AcceptAnswer
+acceptAnswer bytes = answerOf (acceptance bytes)

@@ -1,0 +1,2 @@
+-- The customer's sentences.
+pub mod Demands

@@ -1,0 +1,39 @@
+-- Laws of the rule of document 01. In order: it is monotone; it keeps program order; the order of its operations.
+-- A further condition on runs is one more test in `rule` and one more line in `rule-grows`.
+use mathlib.Core.Bool.{not}
+use Prim.Native.Nat.{ℕ}
+use Rattle.runs.specs.Rule.{Monotone}
+use Rattle.runs.specs.Greedy.{Preference}
+use Rattle.runs.specs.Workers.{turn, InTurn, Ascending}
+use Rattle.runs.proofs.Booleans.{and-left}
+use Rattle.runs.proofs.CanonicalOrder.{canonical-preference, canonical-ascending}
+use Rattle.runs.proofs.MonotoneTests.{Grows, grows-rule, grows-fixed, grows-and, grows-or, grows-done, grows-turn}
+use Rattle.runs.proofs.ProgramOrder.{turn-in-turn}
+use Rattle.trace.specs.Trace.{Trace, size, operation, workerOf, isWait}
+use Rattle.model.specs.Rule.{posts, unblocked, rule, order, WorkersKnown}
+
+module _ (t : Trace) where
+  -- ---- monotone
+
+  unblocked-grows : (x : ℕ) → Grows (λ d. unblocked t d x)
+  unblocked-grows x =
+      grows-or (grows-fixed (not (isWait (operation t x .kind)))) (grows-done (posts t (operation t x .number)))
+
+  rule-grows : (x : ℕ) → Grows (λ d. rule t .may d x)
+  rule-grows x = grows-and (grows-turn (workerOf t) x) (unblocked-grows x)
+
+  pub rule-monotone : Monotone (rule t)
+  rule-monotone = grows-rule (rule t) rule-grows
+
+  -- ---- program order
+
+  pub rule-in-turn : InTurn (rule t) (workerOf t)
+  rule-in-turn = turn-in-turn (workerOf t) (λ d x h. and-left (turn (workerOf t) d x) (unblocked t d x) h)
+
+  -- ---- the lowest-numbered worker first
+
+  pub order-ascending : Ascending (workerOf t) (order t)
+  order-ascending = canonical-ascending (workerOf t) (size t) (t .workers)
+
+pub order-preference : {t : Trace} → WorkersKnown t → Preference (size t) (order t)
+order-preference {t} w = canonical-preference (workerOf t) (w .known)

@@ -1,0 +1,137 @@
+-- The order of two operations of a trace. In order: must-precede, by its definition, by its test, and as the order that
+-- all complete runs share; the pair order.
+use mathlib.Core.Bool.{Bool, true, false, cond}
+use mathlib.Core.List.{List}
+use mathlib.Core.Logic.{_↔_, _≢_, Iff·trans}
+use mathlib.Core.Path.{_≡_, refl, sym}
+use Prim.Native.Nat.{ℕ, _<_}
+use lib.Dec.{T}
+use lib.IntN.{ℤ, pos, negsuc, negℤ}
+use Rattle.runs.specs.MustPrecede.{MustPrecede}
+use Rattle.runs.specs.Run.{Complete, StandsBefore}
+use Rattle.runs.proofs.Booleans.{zero-one}
+use Rattle.runs.proofs.SharedOrder.{must-precede-shared, must-precede-asymmetric, must-precede-test}
+use Rattle.trace.specs.Trace.{Trace, size}
+use Rattle.model.specs.Computed.{mustPrecedeIn, pairOrder}
+use Rattle.model.specs.Orders.{MustPrecedeIn, AlwaysBefore}
+use Rattle.model.specs.Rule.{rule, WorkersKnown}
+use Rattle.model.specs.Runs.{CompleteRunOf}
+use Rattle.model.proofs.Largest.{execution-means}
+use Rattle.model.proofs.RuleLaws.{rule-monotone, order-preference}
+use Rattle.model.proofs.TraceRuns.{complete-means}
+
+-- ---- must-precede
+
+module _ (t : Trace) where
+  pub must-precede-means : {a b : ℕ} → MustPrecede (rule t) a b ↔ MustPrecedeIn t a b
+  must-precede-means = (
+    λ p. record { differ = p .differ; outside = λ m k. p .outside m (execution-means t .1 k) },
+    λ p. record { differ = p .differ; outside = λ m k. p .outside m (execution-means t .0 k) },
+  )
+
+  module _ {c : List ℕ} (complete : CompleteRunOf t c) {a b : ℕ} (i : a < size t) (j : b < size t) where
+    -- the certain order is the order that all complete runs share
+    pub must-precede-always : a ≢ b → MustPrecedeIn t a b ↔ AlwaysBefore t a b
+    must-precede-always d = (
+      λ p r k. shared .0 (must-precede-means .1 p) r (complete-means t .1 k),
+      λ f. must-precede-means .0 (shared .1 (λ r k. f r (complete-means t .0 k))),
+    )
+      where
+        shared : MustPrecede (rule t) a b ↔ ((r : List ℕ) → Complete (rule t) r → StandsBefore a b r)
+        shared = must-precede-shared (rule-monotone t) (complete-means t .1 complete) i j d
+
+    pub must-precede-one-way : MustPrecedeIn t a b → MustPrecedeIn t b a → ⊥
+    must-precede-one-way p q =
+        must-precede-asymmetric (rule-monotone t) (complete-means t .1 complete) i j
+        (must-precede-means .1 p)
+        (must-precede-means .1 q)
+
+module _ {t : Trace} (w : WorkersKnown t) where
+  pub must-precede-in-test : (a b : ℕ) → T (mustPrecedeIn t a b) ↔ MustPrecedeIn t a b
+  unfolding mustPrecedeIn
+  must-precede-in-test a b =
+      Iff·trans (must-precede-test (rule-monotone t) (order-preference w) a b) (must-precede-means t)
+
+-- ---- the pair order
+
+abbrev sign : Bool → Bool → ℤ
+sign forward backward = cond forward (negsuc 0) (cond backward (pos 1) (pos 0))
+
+-- the three signs differ
+record Differ : Type 0 where
+  before-after : negsuc 0 ≡ pos 1 → ⊥
+  before-free : negsuc 0 ≡ pos 0 → ⊥
+  after-free : pos 1 ≡ pos 0 → ⊥
+
+signs : Differ
+signs =
+    record {
+      before-after = λ e. zero-one cc;
+      before-free = λ e. zero-one cc;
+      after-free = λ e. zero-one cc;
+    }
+
+sign-before : (x y : Bool) → (sign x y ≡ negsuc 0) ↔ T x
+sign-before true y = (λ e. tt, λ h. refl)
+sign-before false true = (λ e. signs .before-after (sym e), λ h. absurd h)
+sign-before false false = (λ e. signs .before-free (sym e), λ h. absurd h)
+
+-- where not both tests pass
+module _ (x y : Bool) (n : T x → T y → ⊥) where
+  sign-after : (sign x y ≡ pos 1) ↔ T y
+  sign-after = go x y n
+    where
+      go : (x y : Bool) → (T x → T y → ⊥) → (sign x y ≡ pos 1) ↔ T y
+      go true y n = (λ e. absurd (signs .before-after e), λ h. absurd (n tt h))
+      go false true n = (λ e. tt, λ h. refl)
+      go false false n = (λ e. signs .after-free (sym e), λ h. absurd h)
+
+  sign-swap : sign y x ≡ negℤ (sign x y)
+  sign-swap = go x y n
+    where
+      go : (x y : Bool) → (T x → T y → ⊥) → sign y x ≡ negℤ (sign x y)
+      go true true n = absurd (n tt tt)
+      go true false n = refl
+      go false true n = refl
+      go false false n = refl
+
+sign-free : (x y : Bool) → (sign x y ≡ pos 0) ↔ ((T x → ⊥) × (T y → ⊥))
+sign-free true y = (λ e. absurd (signs .before-free e), λ p. absurd (p .0 tt))
+sign-free false true = (λ e. absurd (signs .after-free e), λ p. absurd (p .1 tt))
+sign-free false false = (λ e. (λ h. h, λ h. h), λ p. refl)
+
+module _ {t : Trace} (w : WorkersKnown t) {c : List ℕ} (complete : CompleteRunOf t c) {a b : ℕ}
+    (i : a < size t) (j : b < size t) where
+  one-way : T (mustPrecedeIn t a b) → T (mustPrecedeIn t b a) → ⊥
+  one-way p q = must-precede-one-way t complete i j (must-precede-in-test w a b .0 p) (must-precede-in-test w b a .0 q)
+
+  module _ (d : a ≢ b) where
+    forward : T (mustPrecedeIn t a b) ↔ AlwaysBefore t a b
+    forward = Iff·trans (must-precede-in-test w a b) (must-precede-always t complete i j d)
+
+    backward : T (mustPrecedeIn t b a) ↔ AlwaysBefore t b a
+    backward = Iff·trans (must-precede-in-test w b a) (must-precede-always t complete j i (λ e. d (sym e)))
+
+    -- −1 exactly when a stands before b in every complete run
+    pub pair-order-before : (pairOrder t a b ≡ negsuc 0) ↔ AlwaysBefore t a b
+    unfolding pairOrder
+    pair-order-before = Iff·trans (sign-before (mustPrecedeIn t a b) (mustPrecedeIn t b a)) forward
+
+    -- +1 exactly when b stands before a in every complete run
+    pub pair-order-after : (pairOrder t a b ≡ pos 1) ↔ AlwaysBefore t b a
+    unfolding pairOrder
+    pair-order-after = Iff·trans (sign-after (mustPrecedeIn t a b) (mustPrecedeIn t b a) one-way) backward
+
+    -- otherwise 0
+    pub pair-order-free : (pairOrder t a b ≡ pos 0) ↔ ((AlwaysBefore t a b → ⊥) × (AlwaysBefore t b a → ⊥))
+    unfolding pairOrder
+    pair-order-free =
+        Iff·trans (sign-free (mustPrecedeIn t a b) (mustPrecedeIn t b a)) (
+          λ p. (λ f. p .0 (forward .1 f), λ f. p .1 (backward .1 f)),
+          λ p. (λ h. p .0 (forward .0 h), λ h. p .1 (backward .0 h)),
+        )
+
+  -- "swapping the two negates it"
+  pub pair-order-swap : pairOrder t b a ≡ negℤ (pairOrder t a b)
+  unfolding pairOrder
+  pair-order-swap = sign-swap (mustPrecedeIn t a b) (mustPrecedeIn t b a) one-way

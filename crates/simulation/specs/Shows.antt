@@ -1,0 +1,35 @@
+-- When the state of a walk shows the operations that are done.
+-- Follows: document 01, "Runs": "the state of a walk is how many operations each worker has done, and the set of posted
+-- events".
+-- Differs: nowhere. A means: no contract speaks of it.
+use mathlib.Core.List.{List, []}
+use mathlib.Core.Path.{_≡_}
+use Prim.Native.Nat.{ℕ}
+use lib.ListN.{length, getD}
+use Rattle.runs.specs.Greedy.{greedyFrom}
+use Rattle.runs.specs.Rule.{without}
+use Rattle.runs.specs.Steps.{done}
+use Rattle.runs.specs.Workers.{count, Counted}
+use Rattle.trace.specs.Trace.{Trace, workerOf}
+use Rattle.model.specs.Rule.{posted, rule, order}
+use Rattle.walk.specs.declared.Walk.{Walk}
+use Rattle.walk.specs.Events.{isPosted}
+use Rattle.walk.specs.Walks.{walkFrom, runFrom}
+
+-- the counts are those of the operations done, and the events set are those that they post
+pub record Shows (t : Trace) (d : List ℕ) (w : Walk) : Type 0 where
+  pub counters : length (w .done) ≡ 16
+  pub words : length (w .events) ≡ 4
+  pub counts : (q : ℕ) → getD (w .done) q 0 ≡ count (workerOf t) q d
+  pub events : (e : ℕ) → isPosted (w .events) e ≡ posted t e d
+
+-- k steps from the state w, which shows d, without operation a: they add the greedy run, and their end shows it
+pub record Walked (t : Trace) (a k : ℕ) (d : List ℕ) (w : Walk) : Type 0 where
+  pub adds : runFrom t a w k ≡ greedyFrom (without (rule t) a) (order t) k d
+  pub shows : Shows t (done d (runFrom t a w k)) (walkFrom t a w k)
+  pub counted : Counted (workerOf t) (done d (runFrom t a w k))
+
+-- the state w is the end of the run r: it shows r's operations, which are each worker's first ones
+pub record Ends (t : Trace) (r : List ℕ) (w : Walk) : Type 0 where
+  pub shows : Shows t (done [] r) w
+  pub counted : Counted (workerOf t) (done [] r)

@@ -1,0 +1,27 @@
+-- `is_posted` meets its contract. Assumes nothing.
+use borrow.Author.Needs.{needs}
+use Rattle.walk.proofs.EventBits.{shift-test}
+use Rattle.walk.proofs.is_posted.Statement.{statement}
+use Rattle.walk.proofs.is_posted.Tie as tie
+
+cast-result : tie.Need-cast-result
+cast-result c = search needs
+
+mul-result : tie.Need-mul-result
+mul-result c = search needs
+
+array-read-result : tie.Need-array-read-result
+array-read-result c = search needs
+
+cast-result-2 : tie.Need-cast-result-2
+cast-result-2 c = search needs
+
+shl-result : tie.Need-shl-result
+shl-result c = search needs
+
+returns : tie.Need-returns
+returns c = shift-test _ (c .args .e)
+
+pub is-posted-spec : {M : Type 1} → statement M
+is-posted-spec =
+    tie.close (tie.spec cast-result mul-result array-read-result cast-result-2 shl-result returns)
