@@ -3,8 +3,8 @@
 -- Differs: the report speaks of Post and Wait alone, document 01 also of Read and Write. Where Definition 1 says that
 -- the execution contains every operation that its clauses allow, here nothing but a can be added to it.
 -- `ContainsAllowed` is the report's wording, but that what has to "precede" an operation which is not in the execution
--- is said to be in it. That these, and "with the most operations", are the same is shown in
--- proofs/Largest, and so are "its set is unique" and "contains every run lacking a".
+-- is said to be in it. That these, and "with the most operations", are the same is shown in proofs/Largest, and so are
+-- "its set is unique" and "contains every run lacking a".
 use mathlib.Core.List.{List, [], _∷_, _++_}
 use mathlib.Core.Logic.{_≢_}
 use mathlib.Core.Path.{_≡_}

@@ -173,15 +173,12 @@ pub run-counted : {R : Rule} {worker : ℕ → ℕ} → Monotone R → InTurn R 
     → Counted worker (done [] r)
 run-counted {worker = worker} mono turn p = counted-steps worker turn (counted-nothing worker) (run-steps mono p)
 
--- Where each worker's operations keep their order, an operation is in a run exactly when the run holds more of its
--- worker's operations than come before it: when its rank (document 01, from 1) is at most its worker's count.
-pub in-run : {R : Rule} {worker : ℕ → ℕ} → Monotone R → InTurn R worker → {r : List ℕ} → Run R r
+-- Where what is done is the first operations of each worker, an operation is in the list exactly when the list holds
+-- more of its worker's operations than come before it.
+pub counted-in : {worker : ℕ → ℕ} (r : List ℕ) → Counted worker (done [] r)
     → (x : ℕ) → (x ∈ r) ↔ (earlier worker x < count worker (worker x) r)
-in-run {worker = worker} mono turn {r} p x = (forth, back)
+counted-in {worker} r c x = (forth, back)
   where
-    c : Counted worker (done [] r)
-    c = run-counted mono turn p
-
     total : count worker (worker x) (done [] r) ≡ count worker (worker x) r
     total = omega (arith, count-done worker (worker x) [] r)
 
@@ -190,3 +187,9 @@ in-run {worker = worker} mono turn {r} p x = (forth, back)
 
     back : earlier worker x < count worker (worker x) r → x ∈ r
     back l = done-same r .forth .all (c .to-in (omega (arith, total)))
+
+-- So it is of every run that keeps program order: an operation is in it exactly when its rank (document 01, from 1) is
+-- at most its worker's count.
+pub in-run : {R : Rule} {worker : ℕ → ℕ} → Monotone R → InTurn R worker → {r : List ℕ} → Run R r
+    → (x : ℕ) → (x ∈ r) ↔ (earlier worker x < count worker (worker x) r)
+in-run mono turn {r} p = counted-in r (run-counted mono turn p)

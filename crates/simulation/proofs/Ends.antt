@@ -13,8 +13,7 @@ use Rattle.runs.specs.Membership.{_∈_, _∉_, upTo}
 use Rattle.runs.specs.Steps.{done}
 use Rattle.runs.specs.Workers.{count, earlier}
 use Rattle.runs.proofs.Booleans.{equal?, less?}
-use Rattle.runs.proofs.Counts.{count-done, earlier-less}
-use Rattle.runs.proofs.Members.{done-same}
+use Rattle.runs.proofs.Counts.{count-done, counted-in, earlier-less}
 use Rattle.trace.specs.Trace.{Trace, size, workerOf}
 use Rattle.index.specs.Indexed.{Rth}
 use Rattle.model.specs.Computed.{firstOutside}
@@ -35,10 +34,7 @@ module _ {t : Trace} {r : List ℕ} {w : Walk} (e : Ends t r w) where
 
   -- those whose worker has done more operations than come before them
   at-count : (x : ℕ) → (x ∈ r) ↔ (earlier (workerOf t) x < getD (w .done) (workerOf t x) 0)
-  at-count x = (
-    λ m. omega (arith, e .counted .from-in (done-same r .back .all m), e .shows .counts (workerOf t x)),
-    λ l. done-same r .forth .all (e .counted .to-in (omega (arith, e .shows .counts (workerOf t x)))),
-  )
+  at-count x = rw (ends-count (workerOf t x)) (counted-in r (e .counted) x)
 
   -- an operation is in the run exactly if it is below its worker's next one
   pub ends-holds : (x : ℕ) → x < size t → (x ∈ r) ↔ (x < nextOf t w (workerOf t x))

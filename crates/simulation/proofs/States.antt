@@ -5,29 +5,25 @@ use mathlib.Core.Logic.{_⊎_, inl, inr, _≢_}
 use mathlib.Core.Path.{_≡_, refl, sym, _∙_}
 use native.Mathlib.Numerals.{add-one}
 use native.Mathlib.Omega.{arith}
-use Prim.Native.Nat.{ℕ, zero, _+_, _<_}
+use Prim.Native.Nat.{ℕ, _+_, _<_}
 use lib.Dec.{T, eqb, eqb→eq}
-use lib.ListN.{length, getD, set, replicate, length-set, getD-replicate, List·getD-eq-default}
+use lib.ListN.{length, getD, set, length-set}
 use lib.Seq.{getD-set-same, getD-set-other}
 use Rattle.runs.specs.Workers.{count}
-use Rattle.runs.proofs.Booleans.{equal?, less?}
+use Rattle.runs.proofs.Booleans.{equal?}
 use Rattle.runs.proofs.Counts.{count-own, count-other}
 use Rattle.trace.specs.Trace.{Trace, size, operation, workerOf, isPost}
 use Rattle.model.specs.Rule.{posted}
 use Rattle.walk.specs.declared.Walk.{Walk}
 use Rattle.walk.specs.Events.{isPosted, withPost}
 use Rattle.walk.specs.Walks.{Fits, startWalk, added}
-use Rattle.walk.proofs.EventBits.{posted-after, posted-start, withPost-length, event-below}
+use Rattle.walk.proofs.EventBits.{zeros, posted-after, posted-start, withPost-length, event-below}
 use Rattle.simulation.specs.Shows.{Shows}
 
 -- ---- nothing done
 
-no-count : (q : ℕ) → getD (replicate 16 0) q 0 ≡ zero
-no-count q =
-    elim (less? q 16) [ inl h ↦ getD-replicate 16 q 0 0 h | inr h ↦ List·getD-eq-default (replicate 16 0) 0 h ]
-
 pub shows-start : (t : Trace) → Shows t [] startWalk
-shows-start t = record { counters = refl; words = refl; counts = no-count; events = posted-start }
+shows-start t = record { counters = refl; words = refl; counts = zeros 16; events = posted-start }
 
 -- ---- one operation more
 

@@ -9,7 +9,7 @@ use native.Mathlib.Omega.{arith}
 use Prim.Native.Nat.{ℕ, zero, suc, _+_, _-_, _*_, _/_, _%_, _^_, _≤_, _<_, max}
 use lib.Bits.{bitAnd, bitOr, and-high, or-shr, or-step}
 use lib.Dec.{T, eqb}
-use lib.ListN.{length, getD, set, replicate, length-set, getD-replicate, List·getD-eq-default}
+use lib.ListN.{length, getD, set, replicate, length-set, length-replicate, getD-replicate, List·getD-eq-default}
 use lib.Pow.{pow-lt, pow-add, pow-pos}
 use lib.Seq.{getD-set-same, getD-set-other}
 use borrow.Author.Tests.{eq-eqb, ne-eqb}
@@ -117,13 +117,17 @@ posted-after events e d h l = posted-bit (set events (e / 64) word) d ∙ go (eq
 
 -- ---- at the start
 
-no-word : (i : ℕ) → getD (replicate 4 0) i 0 ≡ zero
-no-word i =
-    elim (less? i 4) [ inl h ↦ getD-replicate 4 i 0 0 h | inr h ↦ List·getD-eq-default (replicate 4 0) 0 h ]
+-- an array of zeros, at any place
+pub zeros : (n i : ℕ) → getD (replicate n 0) i 0 ≡ zero
+zeros n i =
+    elim (less? i n) [
+      | inl h ↦ getD-replicate n i 0 0 h
+      | inr h ↦ List·getD-eq-default (replicate n 0) 0 (rw length-replicate h)
+    ]
 
 pub posted-start : (e : ℕ) → isPosted (replicate 4 0) e ≡ false
 posted-start e =
-    posted-bit (replicate 4 0) e ∙ rw (no-word (e / 64), div-eq-of-lt (pow-pos (e % 64)))
+    posted-bit (replicate 4 0) e ∙ rw (zeros 4 (e / 64), div-eq-of-lt (pow-pos (e % 64)))
 
 -- ---- an operation's event
 
