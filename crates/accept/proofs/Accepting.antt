@@ -3,13 +3,13 @@
 use mathlib.Core.List.{List}
 use mathlib.Core.Path.{_≡_}
 use Prim.Native.Nat.{ℕ, _<_, _≤_}
-use borrow.Author.Tests.{lt-ltb, le-ltb}
+use borrow.Author.Tests.{le-leb, lt-leb}
 use Rattle.trace.specs.Premises.{HoldsTrace}
 use Rattle.trace.specs.Reading.{refused, fileReading, traceOf}
 use Rattle.model.specs.Computed.{firstOutside}
 use Rattle.walk.specs.declared.Walk.{Walk}
-use Rattle.walk.proofs.EventBits.{trace-fits}
 use Rattle.walk.specs.Walks.{startWalk, walkFrom, lowestLeft}
+use Rattle.walk.proofs.EventBits.{trace-fits}
 use Rattle.simulation.proofs.Ends.{walk-outside}
 use Rattle.accept.specs.declared.AcceptAnswer.the-variants.{Accepted, Refused}
 use Rattle.accept.specs.Acceptance.{acceptance, acceptAnswer}
@@ -26,11 +26,11 @@ module _ {bytes : List ℕ} {p n : ℕ} (h : HoldsTrace bytes p n) where
   module _ {k : ℕ} (e : k ≡ firstOutside (traceOf bytes)) where
     pub answer-refused : k < n → Refused 10 k ≡ acceptAnswer bytes
     unfolding acceptance acceptAnswer
-    answer-refused l = rw (h .trace, h .count, ← e) (simp (lt-ltb k n l))
+    answer-refused l = rw (h .trace, h .count, ← e) (simp (lt-leb n k l))
 
     pub answer-accepted : n ≤ k → Accepted p n ≡ acceptAnswer bytes
     unfolding acceptance acceptAnswer
-    answer-accepted l = rw (h .trace, h .count, ← e) (simp (le-ltb k n l, h .count, h .workers))
+    answer-accepted l = rw (h .trace, h .count, ← e) (simp (le-leb n k l, h .count, h .workers))
 
 pub answer-unread : (bytes : List ℕ) {q k : ℕ} → fileReading bytes ≡ refused q k → Refused q k ≡ acceptAnswer bytes
 unfolding acceptance acceptAnswer

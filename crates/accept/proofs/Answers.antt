@@ -1,13 +1,14 @@
 -- What the call's answer says. In order: a refusal; the counts; an accepted file.
 use mathlib.Core.List.{List}
 use mathlib.Core.Logic.{_↔_}
-use mathlib.Core.Path.{_≡_, refl, ap, _∙_}
+use mathlib.Core.Path.{_≡_, ap}
 use Prim.Native.Nat.{ℕ}
 use Rattle.runs.proofs.Booleans.{zero-one}
 use Rattle.trace.specs.Premises.{HoldsTrace}
-use Rattle.trace.specs.Reading.{Reading, refused, reads, fileReading, traceOf}
+use Rattle.trace.specs.Reading.{refused, reads, fileReading, traceOf}
 use Rattle.trace.specs.Trace.{Trace, size}
 use Rattle.trace.proofs.Answers.{trace-reads}
+use Rattle.trace.proofs.Outcomes.{TellsRefusals, outcome-refused, outcome-reads}
 use Rattle.accept.specs.declared.AcceptAnswer.the-variants.{Accepted, Refused}
 use Rattle.accept.specs.Acceptance.{acceptance, AcceptedTrace, answerOf, acceptAnswer}
 use Rattle.accept.proofs.Questions.{accepted-reads, accepted-trace, accepted-holds}
@@ -15,26 +16,21 @@ use Rattle.accept.proofs.Questions.{accepted-reads, accepted-trace, acc
 module _ (bytes : List ℕ) where
   pub answer-means : (q k : ℕ) → (acceptAnswer bytes ≡ Refused q k) ↔ (acceptance bytes ≡ refused q k)
   unfolding acceptAnswer
-  answer-means q k = (λ a. go (acceptance bytes) refl a, λ e. ap answerOf e)
+  answer-means q k = outcome-refused answerOf tells (acceptance bytes) q k
     where
-      go : (r : Reading) → acceptance bytes ≡ r → answerOf r ≡ Refused q k → acceptance bytes ≡ refused q k
-      go (refused x y) e a = let same : refused x y ≡ refused q k = cc in e ∙ same
-      go (reads t) e a = absurd (zero-one cc)
+      tells : TellsRefusals answerOf
+      tells = record { apart = λ q k t z. zero-one cc; same = λ q k x y z. cc }
 
   -- the file is accepted, and its trace has p workers and n operations
   pub answer-accepts : (p n : ℕ) → acceptAnswer bytes ≡ Accepted p n
       → AcceptedTrace bytes (traceOf bytes) × HoldsTrace bytes p n
   unfolding acceptAnswer
-  answer-accepts p n a = go (acceptance bytes) refl a
-    where
-      go : (r : Reading) → acceptance bytes ≡ r → answerOf r ≡ Accepted p n
-          → AcceptedTrace bytes (traceOf bytes) × HoldsTrace bytes p n
-      go (refused x y) e a = absurd (zero-one cc)
-      go (reads t) e a =
-          let accepted : AcceptedTrace bytes t = record { passes = e } in
-          let ep : t .workers ≡ p = cc in
-          let en : size t ≡ n = cc in
-          (rw (accepted-trace accepted) accepted, rw (ep, en) at (accepted-holds accepted))
+  answer-accepts p n a =
+      let (t, e, i) = outcome-reads answerOf (λ q k z. zero-one cc) (acceptance bytes) a in
+      let accepted : AcceptedTrace bytes t = record { passes = e } in
+      let ep : t .workers ≡ p = cc in
+      let en : size t ≡ n = cc in
+      (rw (accepted-trace accepted) accepted, rw (ep, en) at (accepted-holds accepted))
 
   -- a file is accepted with trace t exactly if it reads as t and the answer is t's counts
   pub accepted-answer : (t : Trace)

@@ -1,41 +1,26 @@
--- What acceptance means. In order: what question 10 makes of a trace; accepted files; files that questions 1 to 9 let
--- pass: question 10 and its place; which refusals there are. What the answer says is in Answers.
+-- What acceptance means. In order: accepted files; files that questions 1 to 9 let pass: question 10 and its place;
+-- which refusals there are. What the answer says is in Answers.
 use mathlib.Core.List.{List}
-use mathlib.Core.Logic.{inl, inr, _↔_}
-use mathlib.Core.Path.{_≡_, refl, sym, ap, _∙_}
+use mathlib.Core.Logic.{_⊎_, inl, inr, _↔_}
+use mathlib.Core.Path.{_≡_, sym, _∙_}
 use native.Mathlib.Omega.{arith}
 use Prim.Native.Nat.{ℕ, _<_, _≤_}
-use borrow.Author.Tests.{lt-ltb, le-ltb}
-use Rattle.runs.proofs.Booleans.{less?, zero-one}
+use borrow.Author.Tests.{leb-true, le-leb, lt-leb}
+use Rattle.runs.proofs.Booleans.{less?}
 use Rattle.trace.specs.Premises.{HoldsTrace}
-use Rattle.trace.specs.Reading.{Reading, refused, reads, fileReading, traceOf}
+use Rattle.trace.specs.Reading.{refused, reads, fileReading, traceOf}
 use Rattle.trace.specs.Trace.{Trace, size}
 use Rattle.trace.specs.Refusals.{Refusal, one-to-four, five-to-nine}
 use Rattle.trace.proofs.Answers.{trace-reads, file-holds}
+use Rattle.trace.proofs.Outcomes.{refused-reads, ask-reads, ask-refused, SaysNo}
 use Rattle.trace.proofs.Refusals.{file-refused-first, file-refused}
 use Rattle.model.specs.Computed.{largestRun, firstOutside}
 use Rattle.model.specs.LargestRuns.{LowestOutside}
 use Rattle.model.specs.Rule.{WorkersKnown}
 use Rattle.model.specs.Runs.{CompleteRunOf, NoCompleteRun}
 use Rattle.model.proofs.Outside.{outside-place, none-outside, complete-largest}
-use Rattle.accept.specs.Acceptance.{askCompleteRun, acceptance, AcceptedTrace}
+use Rattle.accept.specs.Acceptance.{noneOutside, acceptance, AcceptedTrace}
 use Rattle.accept.specs.Refusals.{RefusedFile, by-reading, by-runs}
-
--- ---- what question 10 makes of a trace
-
--- some operation is outside the largest run, or none is
-data Asked (t : Trace) : Type 0 where
-  some-outside : firstOutside t < size t → askCompleteRun (reads t) ≡ refused 10 (firstOutside t) → Asked t
-  all-inside : size t ≤ firstOutside t → askCompleteRun (reads t) ≡ reads t → Asked t
-
-asked : (t : Trace) → Asked t
-asked t = elim (less? (firstOutside t) (size t)) [
-  | inl l ↦ some-outside l (simp (lt-ltb (firstOutside t) (size t) l))
-  | inr l ↦ all-inside l (simp (le-ltb (firstOutside t) (size t) l))
-]
-
-refused-reads : {q k : ℕ} {t : Trace} → refused q k ≡ reads t → ⊥
-refused-reads e = zero-one cc
 
 -- ---- accepted files
 
@@ -43,19 +28,9 @@ refused-reads e = zero-one cc
 passed : {bytes : List ℕ} {t : Trace} → AcceptedTrace bytes t
     → (fileReading bytes ≡ reads t) × (size t ≤ firstOutside t)
 unfolding acceptance
-passed {bytes} {t} a = go (fileReading bytes) refl (a .passes)
-  where
-    go : (r : Reading) → fileReading bytes ≡ r → askCompleteRun r ≡ reads t
-        → (fileReading bytes ≡ reads t) × (size t ≤ firstOutside t)
-    go (refused q k) e i = absurd (refused-reads i)
-    go (reads u) e i = by-question (asked u)
-      where
-        by-question : Asked u → (fileReading bytes ≡ reads t) × (size t ≤ firstOutside t)
-        by-question (some-outside l j) = absurd (refused-reads (sym j ∙ i))
-        by-question (all-inside l j) =
-            let same : reads u ≡ reads t = sym j ∙ i in
-            let equal : u ≡ t = cc in
-            (e ∙ same, rw (← equal) l)
+passed {bytes} {t} a =
+    let (e, i) = ask-reads 10 noneOutside firstOutside (fileReading bytes) t .0 (a .passes) in
+    (e, leb-true (size t) (firstOutside t) i)
 
 pub accepted-reads : {bytes : List ℕ} {t : Trace} → AcceptedTrace bytes t → fileReading bytes ≡ reads t
 accepted-reads a = passed a .0
@@ -77,45 +52,44 @@ module _ (bytes : List ℕ) (t : Trace) (e : fileReading bytes ≡ reads t) wher
   workers : WorkersKnown t
   workers = record { known = λ k l. rw (trace-reads bytes t e) at (file-holds bytes t e .each k l .worker) }
 
-  asks : acceptance bytes ≡ askCompleteRun (reads t)
+  -- what question 10 makes of it: some operation is outside the largest run, or none is
+  some-outside : firstOutside t < size t → acceptance bytes ≡ refused 10 (firstOutside t)
   unfolding acceptance
-  asks = ap askCompleteRun e
+  some-outside l = rw e (simp (lt-leb (size t) (firstOutside t) l))
+
+  none-left : size t ≤ firstOutside t → AcceptedTrace bytes t
+  unfolding acceptance
+  none-left l = record { passes = rw e (simp (le-leb (size t) (firstOutside t) l)) }
 
   -- such a file is refused 10 with place k exactly if k is the lowest operation outside the largest run
   pub refused-place : (k : ℕ) → (acceptance bytes ≡ refused 10 k) ↔ LowestOutside t k
-  refused-place k = go (asked t)
+  refused-place k = (forth, λ o. let i = outside-place workers k .1 o in rw (i .0) (some-outside (rw (i .0) at (i .1))))
     where
-      place : {x y : ℕ} → refused 10 x ≡ refused 10 y → x ≡ y
-      place z = cc
-
-      go : Asked t → (acceptance bytes ≡ refused 10 k) ↔ LowestOutside t k
-      go (some-outside l j) = (
-        λ i. let same : k ≡ firstOutside t = place (sym i ∙ asks ∙ j) in outside-place workers k .0 (same, rw same l),
-        λ o. asks ∙ j ∙ ap (λ (x : ℕ). refused 10 x) (sym (outside-place workers k .1 o .0)),
-      )
-      go (all-inside l j) = (
-        λ i. absurd (refused-reads (sym i ∙ asks ∙ j)),
-        λ o. absurd (omega (arith, o .operation, outside-place workers k .1 o .0)),
-      )
+      forth : acceptance bytes ≡ refused 10 k → LowestOutside t k
+      forth i = elim (less? (firstOutside t) (size t)) [
+        | inl l ↦
+            let same : refused 10 (firstOutside t) ≡ refused 10 k = sym (some-outside l) ∙ i in
+            let place : k ≡ firstOutside t = cc in
+            outside-place workers k .0 (place, rw place l)
+        | inr l ↦ absurd (refused-reads (sym i ∙ none-left l .passes))
+      ]
 
   -- it is accepted exactly if its trace has a complete run
   pub accepted-complete : AcceptedTrace bytes t ↔ ((c : List ℕ) × CompleteRunOf t c)
-  accepted-complete = (λ a. (largestRun t, none-outside workers .0 (passed a .1)), λ c. back (asked t) (c .1))
-    where
-      back : Asked t → {c : List ℕ} → CompleteRunOf t c → AcceptedTrace bytes t
-      back (some-outside l j) c = absurd (omega (arith, none-outside workers .1 (complete-largest workers c)))
-      back (all-inside l j) c = record { passes = asks ∙ j }
+  accepted-complete = (
+    λ a. (largestRun t, none-outside workers .0 (passed a .1)),
+    λ c. none-left (none-outside workers .1 (complete-largest workers (c .1))),
+  )
 
   -- and refused 10 exactly if it has none
   pub refused-incomplete : ((k : ℕ) × (acceptance bytes ≡ refused 10 k)) ↔ NoCompleteRun t
   refused-incomplete = (
     λ i r c. refused-reads (sym (i .1) ∙ accepted-complete .1 (r, c) .passes),
-    λ n. go n (asked t),
+    λ n. elim (less? (firstOutside t) (size t)) [
+      | inl l ↦ (firstOutside t, some-outside l)
+      | inr l ↦ absurd (n (largestRun t) (none-outside workers .0 l))
+    ],
   )
-    where
-      go : NoCompleteRun t → Asked t → (k : ℕ) × (acceptance bytes ≡ refused 10 k)
-      go n (some-outside l j) = (firstOutside t, asks ∙ j)
-      go n (all-inside l j) = absurd (n (largestRun t) (none-outside workers .0 l))
 
 pub accepted-workers : {bytes : List ℕ} {t : Trace} → AcceptedTrace bytes t → WorkersKnown t
 accepted-workers {bytes} {t} a = workers bytes t (accepted-reads a)
@@ -129,22 +103,19 @@ accepted-run a = none-outside (accepted-workers a) .0 (passed a .1)
 -- the first "no" refuses, and nothing else does
 pub refused-file : (bytes : List ℕ) (q k : ℕ) → (acceptance bytes ≡ refused q k) ↔ RefusedFile bytes q k
 unfolding acceptance
-refused-file bytes q k = (λ i. forth (fileReading bytes) refl i, back)
+refused-file bytes q k = (λ i. forth i (ask-refused 10 noneOutside firstOutside (fileReading bytes) q k .0 i), back)
   where
-    forth : (r : Reading) → fileReading bytes ≡ r → askCompleteRun r ≡ refused q k → RefusedFile bytes q k
-    forth (refused x y) e i = by-reading (file-refused-first bytes q k .0 (e ∙ i))
-    forth (reads t) e i = go (asked t)
-      where
-        go : Asked t → RefusedFile bytes q k
-        go (some-outside l j) =
-            let same : refused 10 (firstOutside t) ≡ refused q k = sym j ∙ i in
-            let number : q ≡ 10 = cc in
-            let place : k ≡ firstOutside t = cc in
-            by-runs t e number (outside-place (workers bytes t e) k .0 (place, rw place l))
-        go (all-inside l j) = absurd (refused-reads (sym i ∙ j))
+    forth : acceptance bytes ≡ refused q k
+        → (fileReading bytes ≡ refused q k) ⊎ SaysNo 10 noneOutside firstOutside (fileReading bytes) q k
+        → RefusedFile bytes q k
+    forth i (inl e) = by-reading (file-refused-first bytes q k .0 e)
+    forth i (inr n) =
+        let place = refused-place bytes (n .trace) (n .passed) k .0 (rw (n .number-is) at i) in
+        by-runs (n .trace) (n .passed) (n .number-is) place
 
-    back : RefusedFile bytes q k → askCompleteRun (fileReading bytes) ≡ refused q k
-    back (by-reading r) = ap askCompleteRun (file-refused-first bytes q k .1 r)
+    back : RefusedFile bytes q k → acceptance bytes ≡ refused q k
+    back (by-reading r) =
+        ask-refused 10 noneOutside firstOutside (fileReading bytes) q k .1 (inl (file-refused-first bytes q k .1 r))
     back (by-runs t e n o) = rw n (refused-place bytes t e k .1 o)
 
 -- their numbers

@@ -3,25 +3,25 @@
 -- Differs: question 10 is asked of what is computed, `firstOutside`. That a file which questions 1 to 9 let pass is
 -- refused 10 exactly if its trace has no complete run, and that the place is the lowest operation outside every largest
 -- run, is shown in proofs/Questions.
-use mathlib.Core.Bool.{cond}
+use mathlib.Core.Bool.{Bool}
 use mathlib.Core.List.{List}
 use mathlib.Core.Path.{_≡_}
 use Prim.Native.Nat.{ℕ}
-use lib.Dec.{ltb}
-use Rattle.trace.specs.Reading.{Reading, refused, reads, fileReading}
+use lib.Dec.{leb}
+use Rattle.trace.specs.Reading.{Reading, refused, reads, thenAsk, fileReading}
 use Rattle.trace.specs.Trace.{Trace, size}
 use Rattle.model.specs.Computed.{firstOutside}
 use Rattle.accept.specs.declared.AcceptAnswer.{AcceptAnswer}
 use Rattle.accept.specs.declared.AcceptAnswer.the-variants.{Accepted, Refused}
 
--- 10. "Has the trace a complete run?" If not, the place is "the lowest operation number outside the largest run".
-abbrev pub askCompleteRun : Reading → Reading
-askCompleteRun (refused q k) = refused q k
-askCompleteRun (reads t) = let k = firstOutside t in cond (ltb k (size t)) (refused 10 k) (reads t)
+-- 10. "Has the trace a complete run?": no operation is outside the largest run
+abbrev pub noneOutside : Trace → Bool
+noneOutside t = leb (size t) (firstOutside t)
 
--- questions 1 to 10: the refusal by the first "no", or the trace
+-- questions 1 to 10: the refusal by the first "no", or the trace; the place of 10 is "the lowest operation number
+-- outside the largest run"
 unfoldable pub acceptance : List ℕ → Reading
-acceptance bytes = askCompleteRun (fileReading bytes)
+acceptance bytes = thenAsk 10 noneOutside firstOutside (fileReading bytes)
 
 -- document 01: "A file and its trace are accepted when no question up to 10, in the order asked, refuses the file."
 pub record AcceptedTrace (bytes : List ℕ) (t : Trace) : Type 0 where

@@ -1,51 +1,55 @@
--- The customer's demands, sentence by sentence, as theorems about what the calls answer: the definitions that their
--- contracts cite, at file bytes. A sentence that a call has part in is here from the landing of that call on.
+-- The customer's demands, sentence by sentence, as theorems about what the calls answer and leave in lent memory: the
+-- definitions that their contracts cite, at any file bytes and lent memory. A sentence that a call has part in is here
+-- from the landing of that call on.
 use mathlib.Core.List.{List, _++_}
-use mathlib.Core.Logic.{_↔_, Iff·trans}
-use mathlib.Core.Path.{_≡_, refl, ap, subst}
+use mathlib.Core.Logic.{_↔_, _≢_, Iff·trans}
+use mathlib.Core.Path.{_≡_, sym}
 use native.Mathlib.Nat.{le-refl}
 use native.Mathlib.Omega.{arith}
-use Prim.Native.Nat.{ℕ, _<_, _≤_}
+use Prim.Native.Nat.{ℕ, _+_, _*_, _<_, _≤_}
+use lib.ListN.{length, getD}
 use Rattle.runs.specs.Membership.{_∈_, _∉_}
-use Rattle.trace.specs.Reading.{Reading, refused, reads, fileReading}
+use Rattle.runs.specs.Workers.{count}
+use Rattle.trace.specs.Reading.{reads, fileReading}
 use Rattle.trace.specs.Refusals.{Refusal, one-to-four, five-to-nine}
-use Rattle.trace.specs.Trace.{Trace, size}
+use Rattle.trace.specs.Trace.{Trace, size, workerOf, rank}
 use Rattle.trace.proofs.Refusals.{file-refused-first, file-refused}
 use Rattle.model.specs.LargestRuns.{MaximalExecution, LargestRun, LowestOutside}
+use Rattle.model.specs.Orders.{MustPrecedeIn}
 use Rattle.model.specs.Runs.{RunOf, CompleteRunOf, NoCompleteRun}
-use Rattle.model.proofs.Largest.{execution-nothing, carried-on}
+use Rattle.model.proofs.Largest.{execution-exists, execution-nothing, carried-on}
 use Rattle.accept.specs.declared.AcceptAnswer.{AcceptAnswer}
 use Rattle.accept.specs.declared.AcceptAnswer.the-variants.{Accepted, Refused}
-use Rattle.accept.specs.Acceptance.{acceptance, AcceptedTrace, answerOf, acceptAnswer}
+use Rattle.accept.specs.Acceptance.{acceptance, AcceptedTrace, acceptAnswer}
 use Rattle.accept.specs.Refusals.{RefusedFile, by-reading, by-runs}
+use Rattle.accept.specs.Acceptance as accept
 use Rattle.accept.proofs.Answers.{answer-means, accepted-answer}
 use Rattle.accept.proofs.Questions.{refused-place, accepted-complete, refused-incomplete, accepted-run, refused-file}
 use Rattle.accept.proofs.Questions.{refused-number}
-use Rattle.demands.specs.Outcomes.{AcceptOutcome, gives, refuses}
+use Rattle.order_table.specs.declared.TableAnswer.{TableAnswer}
+use Rattle.order_table.specs.declared.TableAnswer.the-variants as table
+use Rattle.order_table.specs.Table.{tableReading, tableAnswer, tableAfter}
+use Rattle.order_table.specs.Table as order-table
+use Rattle.order_table.proofs.Answers.{call-by, call-refused, table-refused}
+use Rattle.order_table.proofs.Questions.{reads-table, refused-table, refused-table-number}
+use Rattle.order_table.proofs.Entries.{after-length, after-execution, after-must-precede, after-past}
+use Rattle.demands.specs.Outcomes.{AcceptOutcome, TableOutcome}
+use Rattle.demands.proofs.Outcomes.{outcome-exactly}
 
 -- ---- Demand 1
 
 -- "Every entry takes all bytes and numbers, finishes, and either gives its result or a refusal number from document
 -- 01's questions."
 
-outcome-is : {bytes : List ℕ} {x : AcceptAnswer} → AcceptOutcome bytes x → acceptAnswer bytes ≡ x
-unfolding acceptAnswer
-outcome-is (gives a) = ap answerOf (a .passes)
-outcome-is {bytes} (refuses {q} {k} r) = answer-means bytes q k .1 (refused-file bytes q k .1 r)
-
-is-outcome : (bytes : List ℕ) → AcceptOutcome bytes (acceptAnswer bytes)
-unfolding acceptAnswer
-is-outcome bytes = go (acceptance bytes) refl
-  where
-    go : (r : Reading) → acceptance bytes ≡ r → AcceptOutcome bytes (answerOf r)
-    go (refused q k) e = refuses (refused-file bytes q k .0 e)
-    go (reads t) e = gives (record { passes = e })
-
 -- Reading a file answers the counts of the accepted trace, or the refusal by the first "no", and nothing else:
 pub reading-answers : (bytes : List ℕ) (x : AcceptAnswer) → (acceptAnswer bytes ≡ x) ↔ AcceptOutcome bytes x
-reading-answers bytes x = (λ e. subst (λ y. AcceptOutcome bytes y) e (is-outcome bytes), λ o. outcome-is o)
+unfolding acceptAnswer
+reading-answers bytes x = outcome-exactly accept.answerOf (acceptance bytes) passed (refused-file bytes) x
+  where
+    passed : (t : Trace) → (acceptance bytes ≡ reads t) ↔ AcceptedTrace bytes t
+    passed t = (λ e. record { passes = e }, λ a. a .passes)
 
--- its refusal numbers are questions 1 to 10:
+-- Its refusal numbers are questions 1 to 10:
 pub reading-numbers : (bytes : List ℕ) (q k : ℕ) → acceptAnswer bytes ≡ Refused q k → (1 ≤ q) × (q ≤ 10)
 reading-numbers bytes q k a = refused-number (refused-file bytes q k .0 (answer-means bytes q k .0 a))
 
@@ -54,7 +58,59 @@ pub accepted-means : (bytes : List ℕ) (t : Trace)
     → AcceptedTrace bytes t ↔ ((fileReading bytes ≡ reads t) × (acceptAnswer bytes ≡ Accepted (t .workers) (size t)))
 accepted-means bytes t = accepted-answer bytes t
 
+-- The order table answers the counts of the accepted trace where the lent table holds at least n × p numbers, or the
+-- refusal by the first "no", and nothing else:
+pub table-answers : (bytes lent : List ℕ) (x : TableAnswer)
+    → (tableAnswer bytes lent ≡ x) ↔ TableOutcome bytes (length lent) x
+unfolding tableAnswer
+table-answers bytes lent x =
+    let room = length lent in
+    outcome-exactly order-table.answerOf (tableReading bytes room) (reads-table bytes room) (refused-table bytes room) x
+
+-- Its refusal numbers are questions 1 to 11:
+pub table-numbers : (bytes lent : List ℕ) (q k : ℕ) → tableAnswer bytes lent ≡ table.Refused q k → (1 ≤ q) × (q ≤ 11)
+table-numbers bytes lent q k a =
+    refused-table-number (refused-table bytes (length lent) q k .0 (table-refused bytes lent q k .0 a))
+
+-- document 01: "Every call that takes a file asks 1 to 10 of it itself." What reading the file refuses, it refuses
+-- alike, whatever table it is lent:
+pub table-refuses-file : (bytes lent : List ℕ) (q k : ℕ) → acceptAnswer bytes ≡ Refused q k
+    → tableAnswer bytes lent ≡ table.Refused q k
+table-refuses-file bytes lent q k a = sym (call-refused bytes lent a .answers)
+
+-- "A refusal leaves lent memory untouched, but for [...]": the one table that is excepted is not this call's.
+pub table-untouched : (bytes lent : List ℕ) (q k : ℕ) → tableAnswer bytes lent ≡ table.Refused q k
+    → tableAfter bytes lent ≡ lent
+table-untouched bytes lent q k a = sym (call-by bytes lent (table-refused bytes lent q k .0 a) .leaves)
+
+-- Whatever is answered, the table is as long as it was:
+pub table-length : (bytes lent : List ℕ) → length (tableAfter bytes lent) ≡ length lent
+table-length bytes lent = after-length bytes lent
+
 -- ---- Demand 2
+
+-- "The table [is that] of the maximal valid executions of Wisconsin report 1084."
+
+-- For an accepted file, and a lent table that holds at least n × p numbers:
+module _ {bytes : List ℕ} {t : Trace} (h : AcceptedTrace bytes t) (lent : List ℕ)
+    (l : size t * t .workers ≤ length lent) where
+  -- Entry q of row k is the number of worker q's operations in every maximal valid execution without k:
+  pub table-entry : (k q : ℕ) → k < size t → q < t .workers → (m : List ℕ) → MaximalExecution t k m
+      → getD (tableAfter bytes lent) (k * t .workers + q) 0 ≡ count (workerOf t) q m
+  table-entry k q i j m e = after-execution h lent l k q i j m e
+
+  -- For operations a ≠ b, a must precede b exactly if the entry of b's worker in row a is below b's rank:
+  pub table-must-precede : (a b : ℕ) → a ≢ b → a < size t → b < size t
+      → MustPrecedeIn t a b ↔ (getD (tableAfter bytes lent) (a * t .workers + workerOf t b) 0 < rank t b)
+  table-must-precede a b d i j = after-must-precede h lent l a b d i j
+
+  -- What lies behind the n rows of p numbers is as before:
+  pub table-past : (i : ℕ) → size t * t .workers ≤ i → getD (tableAfter bytes lent) i 0 ≡ getD lent i 0
+  table-past i j = after-past h lent l i j
+
+-- There is a maximal valid execution without k, whatever k is:
+pub execution-without : (t : Trace) (k : ℕ) → (m : List ℕ) × MaximalExecution t k m
+execution-without t k = execution-exists t k
 
 -- "The refusal of stuck traces [is that] of the maximal valid executions of Wisconsin report 1084."
 

@@ -2,14 +2,32 @@
 -- Follows: the letter, demand 1; document 01, "The questions".
 -- Differs: nowhere.
 use mathlib.Core.List.{List}
-use Prim.Native.Nat.{ℕ}
+use Prim.Native.Nat.{ℕ, _*_, _≤_}
 use Rattle.trace.specs.Trace.{Trace, size}
 use Rattle.accept.specs.declared.AcceptAnswer.{AcceptAnswer}
-use Rattle.accept.specs.declared.AcceptAnswer.the-variants.{Accepted, Refused}
+use Rattle.accept.specs.declared.AcceptAnswer.the-variants as accept
 use Rattle.accept.specs.Acceptance.{AcceptedTrace}
 use Rattle.accept.specs.Refusals.{RefusedFile}
+use Rattle.order_table.specs.declared.TableAnswer.{TableAnswer}
+use Rattle.order_table.specs.declared.TableAnswer.the-variants as table
+use Rattle.order_table.specs.Refusals.{RefusedTable}
 
--- reading a file: the counts of the accepted trace, or the refusal by the first "no" among questions 1 to 10
-pub data AcceptOutcome (bytes : List ℕ) : AcceptAnswer → Type 0 where
-  gives : {t : Trace} → AcceptedTrace bytes t → AcceptOutcome bytes (Accepted (t .workers) (size t))
-  refuses : {q k : ℕ} → RefusedFile bytes q k → AcceptOutcome bytes (Refused q k)
+-- of any call: its result for a trace that passes the questions, or the refusal by the first "no" among them
+pub data Outcome {X : Type 0} (result : Trace → X) (refusal : ℕ → ℕ → X)
+    (Passes : Trace → Type 0) (RefusedBy : ℕ → ℕ → Type 0) : X → Type 0 where
+  gives : {t : Trace} → Passes t → Outcome result refusal Passes RefusedBy (result t)
+  refuses : {q k : ℕ} → RefusedBy q k → Outcome result refusal Passes RefusedBy (refusal q k)
+
+-- reading a file: the counts of the accepted trace, or the refusal by questions 1 to 10
+abbrev pub AcceptOutcome : List ℕ → AcceptAnswer → Type 0
+AcceptOutcome bytes =
+    Outcome (λ t. accept.Accepted (t .workers) (size t)) accept.Refused (AcceptedTrace bytes) (RefusedFile bytes)
+
+-- the order table, where the lent one holds `room` numbers: the counts, or the refusal by questions 1 to 11
+abbrev pub TableOutcome : List ℕ → ℕ → TableAnswer → Type 0
+TableOutcome bytes room =
+    Outcome
+    (λ t. table.Filled (t .workers) (size t))
+    table.Refused
+    (λ t. AcceptedTrace bytes t × (size t * t .workers ≤ room))
+    (RefusedTable bytes room)

@@ -3,9 +3,11 @@
 use mathlib.Core.List.{List, []}
 use mathlib.Core.Logic.{_↔_}
 use mathlib.Core.Path.{_≡_, refl, sym, ap, _∙_}
+use native.Mathlib.Nat.{mul-le-mul}
 use native.Mathlib.Omega.{arith}
-use Prim.Native.Nat.{ℕ, _+_, _<_, _≤_}
+use Prim.Native.Nat.{ℕ, _+_, _*_, _<_, _≤_}
 use lib.ListN.{length, drop}
+use Rattle.runs.proofs.Booleans.{zero-one}
 use Rattle.trace.specs.declared.ReadAnswer.the-variants.{Read, Refused}
 use Rattle.trace.specs.Answer.{answerOf}
 use Rattle.trace.specs.Form.{Form, base, recordSize, start}
@@ -14,6 +16,7 @@ use Rattle.trace.specs.Questions.{operationIn}
 use Rattle.trace.specs.Reading.{Reading, refused, reads, reading, fileReading, traceOf}
 use Rattle.trace.specs.Trace.{Trace, size, operation}
 use Rattle.trace.specs.Writing.{bytesOf, WellFormed, Bytes}
+use Rattle.trace.proofs.Outcomes.{TellsRefusals, outcome-refused, outcome-reads}
 use Rattle.trace.proofs.ReadWrite.{header-says, reads-workers, reads-count, reads-admitted, reads-at}
 use Rattle.trace.proofs.ReadWrite.{reads-means}
 use Rattle.trace.proofs.Records.{start-inside}
@@ -47,6 +50,10 @@ file-holds bytes t e =
       few = omega (arith, h .few);
       each = λ k l. rw s (reads-admitted base bytes t e k l);
     }
+
+-- n × p is at most 16,384
+pub few-numbers : {bytes : List ℕ} {p n : ℕ} → HoldsTrace bytes p n → n * p ≤ 16384
+few-numbers h = mul-le-mul {n₂ = 1024} {m₂ = 16} (h .few) (h .most)
 
 -- ---- the bytes
 
@@ -87,28 +94,20 @@ record-of bytes k h = go (fileReading bytes) refl
 
 -- ---- what the answer says
 
-answer-counts : (t : Trace) (p n : ℕ) → answerOf (reads t) ≡ Read p n → (t .workers ≡ p) × (size t ≡ n)
-unfolding answerOf
-answer-counts t p n z = (cc, cc)
-
-no-read : (q k p n : ℕ) → answerOf (refused q k) ≡ Read p n → ⊥
-unfolding answerOf
-no-read q k p n z = let y : _≡_ {A = ℕ} 0 1 = cc in omega arith
-
 -- the file reads as a trace of p workers and n operations
 pub answer-holds : (bytes : List ℕ) (p n : ℕ) → answerOf (fileReading bytes) ≡ Read p n → HoldsTrace bytes p n
-answer-holds bytes p n a = go (fileReading bytes) refl
-  where
-    go : (r : Reading) → fileReading bytes ≡ r → HoldsTrace bytes p n
-    go (refused q k) e = absurd (no-read q k p n (rw e at a))
-    go (reads t) e = let c = answer-counts t p n (rw e at a) in rw (c .0, c .1) at (file-holds bytes t e)
+unfolding answerOf
+answer-holds bytes p n a =
+    let (t, e, i) = outcome-reads answerOf (λ q k z. zero-one cc) (fileReading bytes) a in
+    let ep : t .workers ≡ p = cc in
+    let en : size t ≡ n = cc in
+    rw (ep, en) at (file-holds bytes t e)
 
 -- the file is refused, with this number and place
 pub answer-refused : (bytes : List ℕ) (q k : ℕ) → answerOf (fileReading bytes) ≡ Refused q k
     → fileReading bytes ≡ refused q k
 unfolding answerOf
-answer-refused bytes q k a = go (fileReading bytes) refl
+answer-refused bytes q k a = outcome-refused answerOf tells (fileReading bytes) q k .0 a
   where
-    go : (r : Reading) → fileReading bytes ≡ r → fileReading bytes ≡ refused q k
-    go (refused q′ k′) e = let b = rw e at a in cc
-    go (reads t) e = absurd (let b = rw e at a in let y : _≡_ {A = ℕ} 0 1 = cc in omega arith)
+    tells : TellsRefusals answerOf
+    tells = record { apart = λ q k t z. zero-one cc; same = λ q k x y z. cc }

@@ -1,9 +1,9 @@
--- What reading a file gives: a refusal, or a trace.
+-- What reading a file gives: a refusal, or a trace; and how a call asks a further question of the trace (`thenAsk`).
 -- Follows: document 01, "The questions": the header's first, "then record by record in file order, 5 to 9 for each"; "a
 -- refusal is the number and a place: the operation number for 5 to 9", otherwise 0.
 -- Differs: question 10 is not asked here, so a file that reads as a trace need not be one that document 01 calls
 -- accepted.
-use mathlib.Core.Bool.{cond}
+use mathlib.Core.Bool.{Bool, cond}
 use mathlib.Core.List.{List, [], _∷_, _++_}
 use Prim.Native.Nat.{ℕ, zero, suc}
 use lib.Dec.{eqb}
@@ -17,6 +17,15 @@ use Rattle.trace.specs.Trace.{Trace}
 pub data Reading : Type 0 where
   refused : ℕ → ℕ → Reading
   reads : Trace → Reading
+
+-- a further question, of the trace: where it does not hold, it refuses with its number and a place
+abbrev pub thenAsk : ℕ → (Trace → Bool) → (Trace → ℕ) → Reading → Reading
+thenAsk number holds place (refused q k) = refused q k
+thenAsk number holds place (reads t) = cond (holds t) (reads t) (refused number (place t))
+
+-- the place of a refusal is "otherwise 0"
+abbrev pub noPlace : Trace → ℕ
+noPlace t = 0
 
 -- the records behind those of the operations `before`, `left` of them, which `bytes` start with
 unfoldable pub readingFrom : Form → ℕ → List Operation → ℕ → List ℕ → Reading

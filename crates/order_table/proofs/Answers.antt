@@ -1,0 +1,76 @@
+-- What the call answers and leaves in the lent table. In order: by the outcome of the questions; as the code comes to
+-- it; what the answer says.
+use mathlib.Core.List.{List}
+use mathlib.Core.Logic.{_↔_}
+use mathlib.Core.Path.{_≡_, refl, _∙_}
+use Prim.Native.Nat.{ℕ, _*_, _<_, _≤_}
+use lib.ListN.{length}
+use Rattle.runs.proofs.Booleans.{zero-one}
+use Rattle.trace.specs.Premises.{HoldsTrace}
+use Rattle.trace.specs.Reading.{Reading, refused, traceOf}
+use Rattle.trace.specs.Trace.{size}
+use Rattle.trace.proofs.Outcomes.{TellsRefusals, outcome-refused, outcome-reads}
+use Rattle.accept.specs.declared.AcceptAnswer.the-variants as accept
+use Rattle.accept.specs.Acceptance.{AcceptedTrace, acceptAnswer}
+use Rattle.accept.proofs.Answers.{answer-means}
+use Rattle.accept.proofs.Questions.{accepted-trace, accepted-holds, refused-file}
+use Rattle.lent.specs.Written.{writtenOver}
+use Rattle.order_table.specs.declared.TableAnswer.the-variants.{Filled, Refused}
+use Rattle.order_table.specs.Table.{orderTable, tableReading, answerOf, leftBy, tableAnswer, tableAfter}
+use Rattle.order_table.specs.Table.{TableCall}
+use Rattle.order_table.specs.Refusals.{RefusedTable, by-file, by-room}
+use Rattle.order_table.proofs.Questions.{reads-table, refused-table}
+
+-- ---- by the outcome of the questions
+
+pub call-by : (bytes lent : List ℕ) {r : Reading} → tableReading bytes (length lent) ≡ r
+    → TableCall bytes lent (answerOf r) (leftBy r lent)
+unfolding tableAnswer tableAfter
+call-by bytes lent e = record { answers = rw e; leaves = rw e }
+
+-- ---- as the code comes to it
+
+module _ {bytes : List ℕ} {p n : ℕ} (a : AcceptedTrace bytes (traceOf bytes) × HoldsTrace bytes p n) (lent : List ℕ)
+  where
+    numbers : size (traceOf bytes) * traceOf bytes .workers ≡ n * p
+    numbers = rw (a .1 .workers, a .1 .count)
+
+    pub call-filled : n * p ≤ length lent → {now : List ℕ} → now ≡ writtenOver (orderTable (traceOf bytes)) lent
+        → TableCall bytes lent (Filled p n) now
+    call-filled l i =
+        let c = call-by bytes lent (reads-table bytes (length lent) (traceOf bytes) .1 (a .0, rw numbers l)) in
+        record { answers = rw (a .1 .workers, a .1 .count) at (c .answers); leaves = i ∙ c .leaves }
+
+    pub call-short : length lent < n * p → TableCall bytes lent (Refused 11 0) lent
+    call-short l = call-by bytes lent (refused-table bytes (length lent) 11 0 .1 short)
+      where
+        short : RefusedTable bytes (length lent) 11 0
+        short = by-room (traceOf bytes) (a .0) (rw numbers l) refl refl
+
+pub call-refused : (bytes lent : List ℕ) {q k : ℕ} → acceptAnswer bytes ≡ accept.Refused q k
+    → TableCall bytes lent (Refused q k) lent
+call-refused bytes lent {q} {k} i =
+    let refusal = by-file (refused-file bytes q k .0 (answer-means bytes q k .0 i)) in
+    call-by bytes lent (refused-table bytes (length lent) q k .1 refusal)
+
+-- ---- what the answer says
+
+module _ (bytes lent : List ℕ) where
+  pub table-refused : (q k : ℕ)
+      → (tableAnswer bytes lent ≡ Refused q k) ↔ (tableReading bytes (length lent) ≡ refused q k)
+  unfolding tableAnswer
+  table-refused q k = outcome-refused answerOf tells (tableReading bytes (length lent)) q k
+    where
+      tells : TellsRefusals answerOf
+      tells = record { apart = λ q k t z. zero-one cc; same = λ q k x y z. cc }
+
+  -- the file is accepted, its trace has p workers and n operations, and the table is long enough
+  pub table-filled : (p n : ℕ) → tableAnswer bytes lent ≡ Filled p n
+      → AcceptedTrace bytes (traceOf bytes) × HoldsTrace bytes p n × (n * p ≤ length lent)
+  unfolding tableAnswer
+  table-filled p n a =
+      let (t, e, i) = outcome-reads answerOf (λ q k z. zero-one cc) (tableReading bytes (length lent)) a in
+      let (accepted, l) = reads-table bytes (length lent) t .0 e in
+      let ep : t .workers ≡ p = cc in
+      let en : size t ≡ n = cc in
+      (rw (accepted-trace accepted) accepted, rw (ep, en) at (accepted-holds accepted), rw (ep, en) at l)

@@ -1,0 +1,85 @@
+-- What is in the lent table after the call. In order: the rows, each in its part; after any call, the length; after
+-- success, the row of an operation, what its entries count and tell, and what lies behind the rows.
+use mathlib.Core.List.{List, _++_, append-assoc}
+use mathlib.Core.Logic.{_⊎_, inl, inr, _≢_, _↔_}
+use mathlib.Core.Path.{_≡_, refl, sym, ap, _∙_}
+use native.Mathlib.Omega.{arith}
+use Prim.Native.Nat.{ℕ, zero, suc, _+_, _*_, _<_, _≤_}
+use lib.ListN.{length, getD, take, drop}
+use lib.Seq.{take-at, drop-at, getD-take, getD-drop}
+use Rattle.runs.specs.Workers.{count}
+use Rattle.runs.proofs.Booleans.{equal?}
+use Rattle.trace.specs.Reading.{Reading, refused, reads}
+use Rattle.trace.specs.Trace.{Trace, size, workerOf, rank}
+use Rattle.model.specs.Computed.{row}
+use Rattle.model.specs.LargestRuns.{MaximalExecution}
+use Rattle.model.specs.Orders.{MustPrecedeIn}
+use Rattle.model.proofs.TableRows.{row-length, row-execution, row-must-precede}
+use Rattle.accept.specs.Acceptance.{AcceptedTrace}
+use Rattle.accept.proofs.Questions.{accepted-workers}
+use Rattle.lent.specs.Written.{writtenOver}
+use Rattle.lent.proofs.Writing.{written-length, written-past}
+use Rattle.order_table.specs.Table.{rows, orderTable, tableReading, tableAfter}
+use Rattle.order_table.proofs.Questions.{reads-table}
+use Rattle.order_table.proofs.Answers.{call-by}
+use Rattle.order_table.proofs.Rows.{rows-length}
+
+-- ---- the rows
+
+-- among the first m rows, whatever is behind them: the p numbers from k × p on
+rows-part : (t : Trace) (m k : ℕ) (rest : List ℕ) → k < m
+    → take (t .workers) (drop (k * t .workers) (rows t m ++ rest)) ≡ row t k
+unfolding rows
+rows-part t zero k rest l = absurd (omega arith)
+rows-part t (suc m) k rest l = rw append-assoc (go (equal? k m) (rows-part t m k (row t m ++ rest)))
+  where
+    go : (k ≡ m) ⊎ (k ≢ m)
+        → (k < m → take (t .workers) (drop (k * t .workers) (rows t m ++ (row t m ++ rest))) ≡ row t k)
+        → take (t .workers) (drop (k * t .workers) (rows t m ++ (row t m ++ rest))) ≡ row t k
+    go (inl e) f =
+        rw (e, drop-at (rows t m) (row t m ++ rest) (m * t .workers) (rows-length t m))
+        (take-at (row t m) rest (t .workers) (row-length t m))
+    go (inr e) f = f (omega (arith, e))
+
+-- ---- after any call
+
+pub after-length : (bytes lent : List ℕ) → length (tableAfter bytes lent) ≡ length lent
+after-length bytes lent = go (tableReading bytes (length lent)) refl
+  where
+    go : (r : Reading) → tableReading bytes (length lent) ≡ r → length (tableAfter bytes lent) ≡ length lent
+    go (refused q k) e = rw (← call-by bytes lent e .leaves)
+    go (reads t) e =
+        let fits = reads-table bytes (length lent) t .0 e .1 in
+        rw (← call-by bytes lent e .leaves) (written-length (orderTable t) lent (rw (rows-length t (size t)) fits))
+
+-- ---- after success
+
+module _ {bytes : List ℕ} {t : Trace} (a : AcceptedTrace bytes t) (lent : List ℕ)
+    (l : size t * t .workers ≤ length lent) where
+  after-filled : tableAfter bytes lent ≡ writtenOver (orderTable t) lent
+  after-filled = sym (call-by bytes lent (reads-table bytes (length lent) t .1 (a, l)) .leaves)
+
+  pub after-row : (k : ℕ) → k < size t → take (t .workers) (drop (k * t .workers) (tableAfter bytes lent)) ≡ row t k
+  after-row k i = rw after-filled (rows-part t (size t) k (drop (length (orderTable t)) lent) i)
+
+  pub after-entry : (k q : ℕ) → k < size t → q < t .workers
+      → getD (tableAfter bytes lent) (k * t .workers + q) 0 ≡ getD (row t k) q 0
+  after-entry k q i j =
+      sym (getD-drop (k * t .workers) (tableAfter bytes lent) q 0)
+      ∙ sym (getD-take (t .workers) (drop (k * t .workers) (tableAfter bytes lent)) q 0 j)
+      ∙ ap (λ (r : List ℕ). getD r q 0) (after-row k i)
+
+  -- entry q of row k is the number of worker q's operations in every maximal valid execution without k
+  pub after-execution : (k q : ℕ) → k < size t → q < t .workers → (m : List ℕ) → MaximalExecution t k m
+      → getD (tableAfter bytes lent) (k * t .workers + q) 0 ≡ count (workerOf t) q m
+  after-execution k q i j m e = after-entry k q i j ∙ row-execution (accepted-workers a) e q j
+
+  -- x must precede y exactly if the entry of y's worker in row x is below y's rank
+  pub after-must-precede : (x y : ℕ) → x ≢ y → x < size t → y < size t
+      → MustPrecedeIn t x y ↔ (getD (tableAfter bytes lent) (x * t .workers + workerOf t y) 0 < rank t y)
+  after-must-precede x y d i j =
+      let entry = after-entry x (workerOf t y) i (accepted-workers a .known y j) in
+      rw entry (row-must-precede (accepted-workers a) x y d j)
+
+  pub after-past : (i : ℕ) → size t * t .workers ≤ i → getD (tableAfter bytes lent) i 0 ≡ getD lent i 0
+  after-past i j = rw after-filled (written-past (orderTable t) lent 0 i (rw (rows-length t (size t)) j))
