@@ -1,36 +1,46 @@
 -- What acceptance means. In order: accepted files; files that questions 1 to 9 let pass: question 10 and its place;
 -- which refusals there are. What the answer says is in Answers.
 use mathlib.Core.List.{List}
-use mathlib.Core.Logic.{_⊎_, inl, inr, _↔_}
+use mathlib.Core.Logic.{inl, inr, _↔_}
 use mathlib.Core.Path.{_≡_, sym, _∙_}
 use native.Mathlib.Omega.{arith}
 use Prim.Native.Nat.{ℕ, _<_, _≤_}
-use borrow.Author.Tests.{leb-true, le-leb, lt-leb}
+use borrow.Author.Tests.{le-leb, lt-leb}
 use Rattle.runs.proofs.Booleans.{less?}
 use Rattle.trace.specs.Premises.{HoldsTrace}
 use Rattle.trace.specs.Reading.{refused, reads, fileReading, traceOf}
+use Rattle.trace.specs.Refusals.{Refusal, one-to-four, five-to-nine, RefusedNext, by-earlier, by-this}
 use Rattle.trace.specs.Trace.{Trace, size}
-use Rattle.trace.specs.Refusals.{Refusal, one-to-four, five-to-nine}
 use Rattle.trace.proofs.Answers.{trace-reads, file-holds}
-use Rattle.trace.proofs.Outcomes.{refused-reads, ask-reads, ask-refused, SaysNo}
+use Rattle.trace.proofs.Outcomes.{refused-reads, ComesOut, asks-at-most, ask-next}
 use Rattle.trace.proofs.Refusals.{file-refused-first, file-refused}
 use Rattle.model.specs.Computed.{largestRun, firstOutside}
 use Rattle.model.specs.LargestRuns.{LowestOutside}
 use Rattle.model.specs.Rule.{WorkersKnown}
 use Rattle.model.specs.Runs.{CompleteRunOf, NoCompleteRun}
 use Rattle.model.proofs.Outside.{outside-place, none-outside, complete-largest}
-use Rattle.accept.specs.Acceptance.{noneOutside, acceptance, AcceptedTrace}
+use Rattle.accept.specs.Acceptance.{acceptance, AcceptedTrace}
 use Rattle.accept.specs.Refusals.{RefusedFile, by-reading, by-runs}
 
 -- ---- accepted files
 
+-- questions 1 to 10: 10 asks whether no operation is outside the largest run
+asked : (bytes : List ℕ)
+    → ComesOut
+    (acceptance bytes)
+    (λ t. (fileReading bytes ≡ reads t) × (size t ≤ firstOutside t))
+    (RefusedNext (λ q k. fileReading bytes ≡ refused q k) (λ t. fileReading bytes ≡ reads t) 10
+    (λ t. firstOutside t < size t)
+    firstOutside)
+unfolding acceptance
+asked bytes =
+    ask-next 10 firstOutside (asks-at-most size firstOutside)
+    (record { passes = λ t. (λ e. e, λ e. e); refuses = λ q k. (λ e. e, λ e. e) })
+
 -- questions 1 to 9 let it pass, and no operation is outside the largest run
 passed : {bytes : List ℕ} {t : Trace} → AcceptedTrace bytes t
     → (fileReading bytes ≡ reads t) × (size t ≤ firstOutside t)
-unfolding acceptance
-passed {bytes} {t} a =
-    let (e, i) = ask-reads 10 noneOutside firstOutside (fileReading bytes) t .0 (a .passes) in
-    (e, leb-true (size t) (firstOutside t) i)
+passed {bytes} {t} a = asked bytes .passes t .0 (a .passes)
 
 pub accepted-reads : {bytes : List ℕ} {t : Trace} → AcceptedTrace bytes t → fileReading bytes ≡ reads t
 accepted-reads a = passed a .0
@@ -102,21 +112,23 @@ accepted-run a = none-outside (accepted-workers a) .0 (passed a .1)
 
 -- the first "no" refuses, and nothing else does
 pub refused-file : (bytes : List ℕ) (q k : ℕ) → (acceptance bytes ≡ refused q k) ↔ RefusedFile bytes q k
-unfolding acceptance
-refused-file bytes q k = (λ i. forth i (ask-refused 10 noneOutside firstOutside (fileReading bytes) q k .0 i), back)
+refused-file bytes q k = (λ i. forth i (asked bytes .refuses q k .0 i), back)
   where
     forth : acceptance bytes ≡ refused q k
-        → (fileReading bytes ≡ refused q k) ⊎ SaysNo 10 noneOutside firstOutside (fileReading bytes) q k
+        → RefusedNext (λ x y. fileReading bytes ≡ refused x y) (λ t. fileReading bytes ≡ reads t) 10
+        (λ t. firstOutside t < size t) firstOutside q k
         → RefusedFile bytes q k
-    forth i (inl e) = by-reading (file-refused-first bytes q k .0 e)
-    forth i (inr n) =
-        let place = refused-place bytes (n .trace) (n .passed) k .0 (rw (n .number-is) at i) in
-        by-runs (n .trace) (n .passed) (n .number-is) place
+    forth i (by-earlier e) = by-reading (file-refused-first bytes q k .0 e)
+    forth i (by-this t e l n z) = by-runs t e n (refused-place bytes t e k .0 (rw n at i))
 
     back : RefusedFile bytes q k → acceptance bytes ≡ refused q k
-    back (by-reading r) =
-        ask-refused 10 noneOutside firstOutside (fileReading bytes) q k .1 (inl (file-refused-first bytes q k .1 r))
+    back (by-reading r) = asked bytes .refuses q k .1 (by-earlier (file-refused-first bytes q k .1 r))
     back (by-runs t e n o) = rw n (refused-place bytes t e k .1 o)
+
+-- how questions 1 to 10 come out
+pub comes-out : (bytes : List ℕ) → ComesOut (acceptance bytes) (AcceptedTrace bytes) (RefusedFile bytes)
+comes-out bytes =
+    record { passes = λ t. (λ e. record { passes = e }, λ a. a .passes); refuses = refused-file bytes }
 
 -- their numbers
 pub refused-number : {bytes : List ℕ} {q k : ℕ} → RefusedFile bytes q k → (1 ≤ q) × (q ≤ 10)

@@ -4,6 +4,7 @@
 use mathlib.Core.List.{List}
 use Prim.Native.Nat.{ℕ, _*_, _≤_}
 use Rattle.trace.specs.Trace.{Trace, size}
+use Rattle.model.specs.Computed.{pairOrder}
 use Rattle.accept.specs.declared.AcceptAnswer.{AcceptAnswer}
 use Rattle.accept.specs.declared.AcceptAnswer.the-variants as accept
 use Rattle.accept.specs.Acceptance.{AcceptedTrace}
@@ -11,6 +12,12 @@ use Rattle.accept.specs.Refusals.{RefusedFile}
 use Rattle.order_table.specs.declared.TableAnswer.{TableAnswer}
 use Rattle.order_table.specs.declared.TableAnswer.the-variants as table
 use Rattle.order_table.specs.Refusals.{RefusedTable}
+use Rattle.pair_order.specs.declared.OrderAnswer.{OrderAnswer}
+use Rattle.pair_order.specs.declared.OrderAnswer.the-variants as order
+use Rattle.pair_order.specs.Refusals.{AcceptedPair, RefusedPair}
+use Rattle.two_runs.specs.declared.RunsAnswer.{RunsAnswer}
+use Rattle.two_runs.specs.declared.RunsAnswer.the-variants as runs
+use Rattle.two_runs.specs.Refusals.{AcceptedRuns, RefusedRuns}
 
 -- of any call: its result for a trace that passes the questions, or the refusal by the first "no" among them
 pub data Outcome {X : Type 0} (result : Trace → X) (refusal : ℕ → ℕ → X)
@@ -31,3 +38,15 @@ TableOutcome bytes room =
     table.Refused
     (λ t. AcceptedTrace bytes t × (size t * t .workers ≤ room))
     (RefusedTable bytes room)
+
+-- the pair order: the order of two different operations of the accepted trace, or the refusal by questions 1 to 10, 12
+-- and 13
+abbrev pub OrderOutcome : List ℕ → ℕ → ℕ → OrderAnswer → Type 0
+OrderOutcome bytes a b =
+    Outcome (λ t. order.Ordered (pairOrder t a b)) order.Refused (AcceptedPair bytes a b) (RefusedPair bytes a b)
+
+-- the two runs, where the buffers hold x and y numbers: the operation count, or the refusal by questions 1 to 10 and 12
+-- to 15
+abbrev pub RunsOutcome : List ℕ → ℕ → ℕ → ℕ → ℕ → RunsAnswer → Type 0
+RunsOutcome bytes a b x y =
+    Outcome (λ t. runs.Runs (size t)) runs.Refused (AcceptedRuns bytes a b x y) (RefusedRuns bytes a b x y)

@@ -1,10 +1,12 @@
 -- The starred examples of document 01, one list, computed from file bytes by the definitions that the calls' contracts
--- cite. What a later call answers is added to this list with that call.
+-- cite.
 -- Follows: document 01, "Examples". A and B, whose rows, orders, runs and races are starred there, are accepted.
--- Differs: nowhere.
+-- Differs: nowhere. Beside the starred ones, marked *, it has refusals by questions 10 to 15, and lent memory that just
+-- fits, is longer, or is too short.
 use mathlib.Core.List.{List, [], _∷_, _++_}
 use mathlib.Core.Path.{_≡_, refl}
 use Prim.Native.Nat.{ℕ, _*_}
+use lib.IntN.{pos, negsuc}
 use lib.ListN.{take, drop, replicate}
 use Rattle.trace.specs.declared.Operation.{Operation}
 use Rattle.trace.specs.Examples.{fileA, traceA}
@@ -13,13 +15,22 @@ use Rattle.trace.specs.Questions.{operationIn, marked, ranked, isHeader, worker
 use Rattle.trace.specs.Questions.{eventFits, cellsFit, recordQuestion}
 use Rattle.trace.specs.Reading.{reads, readingFrom, reading, fileReading}
 use Rattle.trace.specs.Trace.{Trace, ofWorker, isSync, isAccess}
-use Rattle.model.specs.Computed.{largestRun, largestRunWithout, firstOutside, row}
+use Rattle.model.specs.Computed.{largestRun, largestRunWithout, firstOutside, row, mustPrecedeIn, pairOrder}
+use Rattle.model.specs.Computed.{heldBackRun}
 use Rattle.model.specs.Examples.{post, wait, readCell, writeCell}
 use Rattle.accept.specs.declared.AcceptAnswer.the-variants.{Accepted, Refused}
 use Rattle.accept.specs.Acceptance.{acceptance, acceptAnswer}
 use Rattle.order_table.specs.declared.TableAnswer.the-variants.{Filled}
 use Rattle.order_table.specs.declared.TableAnswer.the-variants as table
 use Rattle.order_table.specs.Table.{rows, tableReading, tableAnswer, tableAfter}
+use Rattle.pair_order.specs.declared.OrderAnswer.the-variants.{Ordered}
+use Rattle.pair_order.specs.declared.OrderAnswer.the-variants as order
+use Rattle.pair_order.specs.Order.{pairReading, orderAnswer}
+use Rattle.two_runs.specs.declared.RunsAnswer.the-variants.{Runs}
+use Rattle.two_runs.specs.declared.RunsAnswer.the-variants as runs
+use Rattle.two_runs.specs.Runs.{runsReading, runsAnswer, firstAfter, secondAfter}
+use Rattle.beginning.specs.Computed.{firstIndex, beginningLength, prefixOf, beginningOf}
+use Rattle.beginning.specs.Returned.{ofSecond}
 use Rattle.demands.specs.Files.{fileB, fileC, waitThenPost, postThenWait, fileE}
 
 -- a trace of p workers
@@ -41,9 +52,16 @@ files = (refl, refl, refl, refl, refl, refl)
 abbrev pub rowsA : List ℕ
 rowsA = 0 ∷ 0 ∷ 0 ∷ 1 ∷ 0 ∷ 0 ∷ 2 ∷ 0 ∷ 3 ∷ 2 ∷ 1 ∷ 3 ∷ 2 ∷ 2 ∷ 0 ∷ 2 ∷ 2 ∷ 1 ∷ 2 ∷ 2 ∷ 2 ∷ []
 
--- a lent table of m numbers, each 9
+-- a lent table or buffer of m numbers, each 9
 abbrev pub nines : ℕ → List ℕ
 nines m = replicate m 9
+
+-- A's two runs for 3 and 5
+abbrev pub runWith3First : List ℕ
+runWith3First = 0 ∷ 1 ∷ 2 ∷ 3 ∷ 4 ∷ 5 ∷ 6 ∷ []
+
+abbrev pub runWith5First : List ℕ
+runWith5First = 0 ∷ 1 ∷ 2 ∷ 4 ∷ 5 ∷ 6 ∷ 3 ∷ []
 
 -- document 01: "The row of operation k is the p numbers that start at k × p"
 abbrev pub rowIn : ℕ → ℕ → List ℕ → List ℕ
@@ -66,9 +84,39 @@ pub starred :
     × (tableAfter fileA (nines 23) ≡ rowsA ++ nines 2)
     × (tableAnswer fileA (nines 20) ≡ table.Refused 11 0)
     × (tableAfter fileA (nines 20) ≡ nines 20)
+    -- A2*: "order of 0 and 3 is −1, of 3 and 0 is +1, of 3 and 5 is 0"
+    × (orderAnswer fileA 0 3 ≡ Ordered (negsuc 0))
+    × (orderAnswer fileA 3 0 ≡ Ordered (pos 1))
+    × (orderAnswer fileA 3 5 ≡ Ordered (pos 0))
+    -- A3*: "runs for 3 and 5: 0 1 2 3 4 5 6 and 0 1 2 4 5 6 3", to a buffer of just as many numbers, and to a longer
+    × (runsAnswer fileA 3 5 (nines 7) (nines 9) ≡ Runs 7)
+    × (firstAfter fileA 3 5 (nines 7) (nines 9) ≡ runWith3First)
+    × (secondAfter fileA 3 5 (nines 7) (nines 9) ≡ runWith5First ++ nines 2)
+    -- A3*: "Chosen 5, other 3: 0 1 2 4 5", of the two buffers
+    × (beginningOf (firstAfter fileA 3 5 (nines 7) (nines 9)) (secondAfter fileA 3 5 (nines 7) (nines 9)) 5 3
+    ≡ ofSecond (0 ∷ 1 ∷ 2 ∷ 4 ∷ 5 ∷ []))
+    -- no operation 7; an operation and itself; an ordered pair, whatever the buffers; a buffer that is too short
+    × (orderAnswer fileA 7 7 ≡ order.Refused 12 0)
+    × (orderAnswer fileA 3 3 ≡ order.Refused 13 0)
+    × (runsAnswer fileA 0 3 [] [] ≡ runs.Refused 14 0)
+    × (runsAnswer fileA 3 5 (nines 6) (nines 7) ≡ runs.Refused 15 0)
+    × (runsAnswer fileA 3 5 (nines 7) (nines 6) ≡ runs.Refused 15 0)
+    × (firstAfter fileA 3 5 (nines 7) (nines 6) ≡ nines 7)
+    × (secondAfter fileA 3 5 (nines 6) (nines 7) ≡ nines 7)
+    -- "Following the Post seen first: in B, 0 would be certain before 4."
+    × (orderAnswer fileB 0 4 ≡ Ordered (pos 0))
+    -- two runs that show it, and the beginning of the one in which the read comes first
+    × (runsAnswer fileB 0 4 (nines 5) (nines 5) ≡ Runs 5)
+    × (firstAfter fileB 0 4 (nines 5) (nines 5) ≡ 0 ∷ 1 ∷ 2 ∷ 3 ∷ 4 ∷ [])
+    × (secondAfter fileB 0 4 (nines 5) (nines 5) ≡ 2 ∷ 3 ∷ 4 ∷ 0 ∷ 1 ∷ [])
+    × (beginningOf (firstAfter fileB 0 4 (nines 5) (nines 5)) (secondAfter fileB 0 4 (nines 5) (nines 5)) 4 0
+    ≡ ofSecond (2 ∷ 3 ∷ 4 ∷ []))
     -- B1*: "rows 0 and 4: 0 1 2 and 2 1 1"
     × (rowIn 3 0 (tableAfter fileB (nines 15)) ≡ 0 ∷ 1 ∷ 2 ∷ [])
     × (rowIn 3 4 (tableAfter fileB (nines 15)) ≡ 2 ∷ 1 ∷ 1 ∷ [])
+    -- C: "refused 10 place 0", whatever the numbers
+    × (orderAnswer fileC 0 9 ≡ order.Refused 10 0)
+    × (runsAnswer fileC 1 1 [] [] ≡ runs.Refused 10 0)
     -- C and E: "refused 10 place 0", also with too short a table; no rows
     × (tableAnswer fileC [] ≡ table.Refused 10 0)
     × (tableAfter fileC (nines 8) ≡ nines 8)
@@ -76,8 +124,30 @@ pub starred :
     × (tableAfter fileE [] ≡ [])
 unfolding value operationIn marked ranked isHeader workersFit headerQuestion ofWorker isSync isAccess kindKnown
     eventFits cellsFit recordQuestion readingFrom reading fileReading largestRun firstOutside acceptance acceptAnswer
-    largestRunWithout row rows tableReading tableAnswer tableAfter
+    largestRunWithout row rows tableReading tableAnswer tableAfter mustPrecedeIn pairOrder heldBackRun pairReading
+    orderAnswer runsReading runsAnswer firstAfter secondAfter firstIndex beginningLength prefixOf
 starred = (
+  refl,
+  refl,
+  refl,
+  refl,
+  refl,
+  refl,
+  refl,
+  refl,
+  refl,
+  refl,
+  refl,
+  refl,
+  refl,
+  refl,
+  refl,
+  refl,
+  refl,
+  refl,
+  refl,
+  refl,
+  refl,
   refl,
   refl,
   refl,

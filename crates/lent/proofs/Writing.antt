@@ -30,19 +30,19 @@ module _ {A : Type 0} where
     pub size : length now ≡ length old
     pub whole : now ≡ writtenOver new old
 
-  made : {at : ℕ} {new old now : List A} → length new ≡ at → at ≤ length old → now ≡ writtenOver new old
+  pub written-by : {at : ℕ} {new old now : List A} → length new ≡ at → at ≤ length old → now ≡ writtenOver new old
       → Written at new old now
-  made {at} {new} {old} e l i =
+  written-by {at} {new} {old} e l i =
       record { place = e; fits = l; size = rw i (written-length new old (omega (arith, e))); whole = i }
 
   pub written-none : (old : List A) → Written 0 [] old old
-  written-none old = made refl (omega arith) refl
+  written-none old = written-by refl (omega arith) refl
 
   module _ {at : ℕ} {new old now : List A} (w : Written at new old now) where
     -- the m elements behind what is written are lent on, and come back as `part`
     pub written-part : {m : ℕ} (part : List A) → length part ≡ m → at + m ≤ length old
         → Written (at + m) (new ++ part) old (take at now ++ (part ++ drop m (drop at now)))
-    written-part {m} part e l = made (simp length-append (omega (arith, w .place, e))) l whole
+    written-part {m} part e l = written-by (simp length-append (omega (arith, w .place, e))) l whole
       where
         rest : List A
         rest = drop (length new) old

@@ -1,28 +1,30 @@
 -- The run that holds b back, by document 01's words. In order: a worker's next operation that may run is one that the
 -- rule lets be added; the lowest-numbered worker first; the held-back run that is computed is the one of document 01,
--- and the only one; it is complete, and what it shows of the order.
+-- and the only one; it is complete, and what it shows of the order of a pair.
 use mathlib.Core.Bool.{not}
 use mathlib.Core.List.{List}
 use mathlib.Core.Logic.{inl, inr, _↔_, _≢_}
-use mathlib.Core.Path.{_≡_, refl}
+use mathlib.Core.Path.{_≡_, refl, sym}
 use native.Mathlib.Omega.{arith}
 use Prim.Native.Nat.{ℕ, _<_, _≤_}
+use lib.IntN.{pos}
 use lib.Dec.{T, eqb, eqb→eq, eqb-refl, T-not, not-T}
 use Rattle.runs.specs.Rule.{Rule, without}
 use Rattle.runs.specs.Run.{StandsBefore}
 use Rattle.runs.specs.Steps.{Addable}
 use Rattle.runs.specs.Workers.{LowestFirst, HoldsBack, none-can, moves}
+use Rattle.runs.proofs.Before.{before-asymmetric}
 use Rattle.runs.proofs.Booleans.{and-left, and-right, and-intro, less?}
 use Rattle.runs.proofs.HoldingBack.{holding-back-complete, holding-back-before, holding-back-holds, holds-back-unique}
 use Rattle.trace.specs.Trace.{Trace, size, workerOf}
-use Rattle.model.specs.Computed.{heldBackRun}
+use Rattle.model.specs.Computed.{pairOrder, heldBackRun}
 use Rattle.model.specs.Moves.{CanMove, LowestFirstRun, takes, Only, Nothing, HeldBackRun}
 use Rattle.model.specs.Moves as words
-use Rattle.model.specs.Orders.{MustPrecedeIn}
+use Rattle.model.specs.Orders.{MustPrecedeIn, Unordered, SometimesBefore}
 use Rattle.model.specs.Rule.{rule, WorkersKnown}
 use Rattle.model.specs.Runs.{CompleteRunOf}
 use Rattle.model.proofs.RuleLaws.{rule-monotone, rule-in-turn, order-ascending, order-preference}
-use Rattle.model.proofs.SharedOrder.{must-precede-means}
+use Rattle.model.proofs.SharedOrder.{must-precede-means, pair-order-zero, pair-order-otherwise}
 use Rattle.model.proofs.TraceRuns.{may-means, complete-means}
 
 -- the rule that excludes some operations lets the others be next
@@ -92,7 +94,7 @@ module _ {t : Trace} {R : Rule} {excluded : ℕ → Type 0} (s : Excludes t R ex
 -- ---- the held-back run
 
 module _ (t : Trace) where
-  pub held-back-means : {b : ℕ} {r : List ℕ} → HoldsBack (workerOf t) (rule t) b r ↔ HeldBackRun t b r
+  held-back-means : {b : ℕ} {r : List ℕ} → HoldsBack (workerOf t) (rule t) b r ↔ HeldBackRun t b r
   held-back-means {b} = (
     λ h. record {
       without-b = h .without-b;
@@ -140,3 +142,20 @@ module _ {t : Trace} (w : WorkersKnown t) where
     held-back-before l d n =
         holding-back-before (rule-monotone t) (order-preference w) (complete-means t .1 complete) l d
         (λ p. n (must-precede-means t .0 p))
+
+    -- the pair order is 0 exactly if there is a complete run with a before b, and one with b before a
+    pub pair-order-both : {a b : ℕ} → a < size t → b < size t → a ≢ b
+        → (pairOrder t a b ≡ pos 0) ↔ (SometimesBefore t a b × SometimesBefore t b a)
+    pair-order-both {a} {b} i j d = (λ e. forth (pair-order-zero w a b .0 e), back)
+      where
+        forth : Unordered t a b → SometimesBefore t a b × SometimesBefore t b a
+        forth u = (
+          (heldBackRun t b, held-back-complete b, held-back-before j d (u .not-after)),
+          (heldBackRun t a, held-back-complete a, held-back-before i (λ e. d (sym e)) (u .not-before)),
+        )
+
+        back : SometimesBefore t a b × SometimesBefore t b a → pairOrder t a b ≡ pos 0
+        back s = pair-order-otherwise w complete i j d .1 (
+          λ f. let (r, c, l) = s .1 in before-asymmetric (c .is-run .different) (f r c) l,
+          λ f. let (r, c, l) = s .0 in before-asymmetric (c .is-run .different) (f r c) l,
+        )

@@ -23,9 +23,9 @@ use Rattle.trace.specs.Trace.{Trace, size}
 use Rattle.model.specs.Computed.{largestRun, largestRunWithout}
 use Rattle.model.specs.LargestRuns.{MaximalExecution, ContainsAllowed, LargestRunWithout, LargestRun}
 use Rattle.model.specs.Rule.{rule, WorkersKnown}
-use Rattle.model.specs.Runs.{Earlier, Waits, PostFor, RunOf, CompleteRunOf}
+use Rattle.model.specs.Runs.{Earlier, Waits, PostFor, RunOf, CompleteRunOf, CarriedOn}
 use Rattle.model.proofs.RuleLaws.{rule-monotone, order-preference}
-use Rattle.model.proofs.TraceRuns.{may-means, run-means, complete-means}
+use Rattle.model.proofs.TraceRuns.{may-means, run-means, longer-carries-on, complete-means}
 
 module _ (t : Trace) where
   -- ---- the theory's words
@@ -161,10 +161,12 @@ module _ (t : Trace) where
   complete-run-length c = complete-length (complete-means t .1 c)
 
   -- where there is one, every run can be carried on to a complete one
-  pub carried-on : {r c : List ℕ} → RunOf t r → CompleteRunOf t c → (s : List ℕ) × CompleteRunOf t (r ++ s)
+  pub carried-on : {r c : List ℕ} → RunOf t r → CompleteRunOf t c
+      → (s : List ℕ) × CarriedOn t r s × CompleteRunOf t (r ++ s)
   carried-on p c =
       let e = carry-on (rule-monotone t) (run-means t .1 p) (complete-means t .1 c) in
-      (e .0, complete-means t .0 (e .1))
+      let complete = complete-means t .0 (e .1) in
+      (e .0, longer-carries-on t (complete .is-run), complete)
 
 -- ---- what is computed
 

@@ -1,19 +1,19 @@
 -- The order of two operations of a trace. In order: must-precede, by its definition, by its test, and as the order that
 -- all complete runs share; the pair order.
-use mathlib.Core.Bool.{Bool, true, false, cond}
+use mathlib.Core.Bool.{Bool, true, false, cond, not, _&&_}
 use mathlib.Core.List.{List}
-use mathlib.Core.Logic.{_↔_, _≢_, Iff·trans}
+use mathlib.Core.Logic.{_⊎_, inl, inr, _↔_, _≢_, Iff·trans}
 use mathlib.Core.Path.{_≡_, refl, sym}
 use Prim.Native.Nat.{ℕ, _<_}
 use lib.Dec.{T}
 use lib.IntN.{ℤ, pos, negsuc, negℤ}
 use Rattle.runs.specs.MustPrecede.{MustPrecede}
 use Rattle.runs.specs.Run.{Complete, StandsBefore}
-use Rattle.runs.proofs.Booleans.{zero-one}
+use Rattle.runs.proofs.Booleans.{zero-one, test-true, both-pass, one-fails, not-passes, not-fails}
 use Rattle.runs.proofs.SharedOrder.{must-precede-shared, must-precede-asymmetric, must-precede-test}
 use Rattle.trace.specs.Trace.{Trace, size}
-use Rattle.model.specs.Computed.{mustPrecedeIn, pairOrder}
-use Rattle.model.specs.Orders.{MustPrecedeIn, AlwaysBefore}
+use Rattle.model.specs.Computed.{mustPrecedeIn, unorderedIn, pairOrder}
+use Rattle.model.specs.Orders.{MustPrecedeIn, Unordered, AlwaysBefore}
 use Rattle.model.specs.Rule.{rule, WorkersKnown}
 use Rattle.model.specs.Runs.{CompleteRunOf}
 use Rattle.model.proofs.Largest.{execution-means}
@@ -95,10 +95,60 @@ module _ (x y : Bool) (n : T x → T y → ⊥) where
       go false true n = refl
       go false false n = refl
 
-sign-free : (x y : Bool) → (sign x y ≡ pos 0) ↔ ((T x → ⊥) × (T y → ⊥))
-sign-free true y = (λ e. absurd (signs .before-free e), λ p. absurd (p .0 tt))
-sign-free false true = (λ e. absurd (signs .after-free e), λ p. absurd (p .1 tt))
-sign-free false false = (λ e. (λ h. h, λ h. h), λ p. refl)
+sign-zero : (x y : Bool) → (sign x y ≡ pos 0) ↔ (not x && not y ≡ true)
+sign-zero true y = (λ e. absurd (signs .before-free e), λ e. absurd (test-true false .0 e))
+sign-zero false true = (λ e. absurd (signs .after-free e), λ e. absurd (test-true false .0 e))
+sign-zero false false = (λ e. refl, λ e. refl)
+
+sign-one-of : (x y : Bool) → (sign x y ≡ negsuc 0) ⊎ (sign x y ≡ pos 1) ⊎ (sign x y ≡ pos 0)
+sign-one-of true y = inl refl
+sign-one-of false true = inr (inl refl)
+sign-one-of false false = inr (inr refl)
+
+module _ (t : Trace) (a b : ℕ) where
+  -- by the two tests
+  pub order-first : mustPrecedeIn t a b ≡ true → pairOrder t a b ≡ negsuc 0
+  unfolding pairOrder
+  order-first e = rw e
+
+  pub order-second : mustPrecedeIn t a b ≡ false → mustPrecedeIn t b a ≡ true → pairOrder t a b ≡ pos 1
+  unfolding pairOrder
+  order-second e f = rw (e, f)
+
+  pub order-neither : mustPrecedeIn t a b ≡ false → mustPrecedeIn t b a ≡ false → pairOrder t a b ≡ pos 0
+  unfolding pairOrder
+  order-neither e f = rw (e, f)
+
+  pub pair-order-one-of : (pairOrder t a b ≡ negsuc 0) ⊎ (pairOrder t a b ≡ pos 1) ⊎ (pairOrder t a b ≡ pos 0)
+  unfolding pairOrder
+  pair-order-one-of = sign-one-of (mustPrecedeIn t a b) (mustPrecedeIn t b a)
+
+module _ {t : Trace} (w : WorkersKnown t) (a b : ℕ) where
+  pub unordered-test : (unorderedIn t a b ≡ true) ↔ Unordered t a b
+  unordered-test =
+      Iff·trans
+      (both-pass (not (mustPrecedeIn t a b)) (not (mustPrecedeIn t b a))
+      (not-passes (mustPrecedeIn t a b) (must-precede-in-test w a b))
+      (not-passes (mustPrecedeIn t b a) (must-precede-in-test w b a)))
+      (λ p. record { not-before = p .0; not-after = p .1 }, λ u. (u .not-before, u .not-after))
+
+  pub ordered-test : (unorderedIn t a b ≡ false) ↔ (MustPrecedeIn t a b ⊎ MustPrecedeIn t b a)
+  ordered-test =
+      one-fails (not (mustPrecedeIn t a b)) (not (mustPrecedeIn t b a))
+      (not-fails (mustPrecedeIn t a b) (must-precede-in-test w a b))
+      (not-fails (mustPrecedeIn t b a) (must-precede-in-test w b a))
+
+  -- 0 exactly if neither must precede the other
+  pub pair-order-zero : (pairOrder t a b ≡ pos 0) ↔ Unordered t a b
+  unfolding pairOrder
+  pair-order-zero = Iff·trans (sign-zero (mustPrecedeIn t a b) (mustPrecedeIn t b a)) unordered-test
+
+  pub pair-order-some : pairOrder t a b ≢ pos 0 → MustPrecedeIn t a b ⊎ MustPrecedeIn t b a
+  pair-order-some d = go (unorderedIn t a b) refl
+    where
+      go : (u : Bool) → unorderedIn t a b ≡ u → MustPrecedeIn t a b ⊎ MustPrecedeIn t b a
+      go true e = absurd (d (pair-order-zero .1 (unordered-test .0 e)))
+      go false e = ordered-test .0 e
 
 module _ {t : Trace} (w : WorkersKnown t) {c : List ℕ} (complete : CompleteRunOf t c) {a b : ℕ}
     (i : a < size t) (j : b < size t) where
@@ -123,12 +173,13 @@ module _ {t : Trace} (w : WorkersKnown t) {c : List ℕ} (complete : CompleteRun
     pair-order-after = Iff·trans (sign-after (mustPrecedeIn t a b) (mustPrecedeIn t b a) one-way) backward
 
     -- otherwise 0
-    pub pair-order-free : (pairOrder t a b ≡ pos 0) ↔ ((AlwaysBefore t a b → ⊥) × (AlwaysBefore t b a → ⊥))
-    unfolding pairOrder
-    pair-order-free =
-        Iff·trans (sign-free (mustPrecedeIn t a b) (mustPrecedeIn t b a)) (
-          λ p. (λ f. p .0 (forward .1 f), λ f. p .1 (backward .1 f)),
-          λ p. (λ h. p .0 (forward .0 h), λ h. p .1 (backward .0 h)),
+    pub pair-order-otherwise : (pairOrder t a b ≡ pos 0) ↔ ((AlwaysBefore t a b → ⊥) × (AlwaysBefore t b a → ⊥))
+    pair-order-otherwise =
+        let forth = must-precede-always t complete i j d in
+        let back = must-precede-always t complete j i (λ e. d (sym e)) in
+        Iff·trans (pair-order-zero w a b) (
+          λ u. (λ f. u .not-before (forth .1 f), λ f. u .not-after (back .1 f)),
+          λ p. record { not-before = λ m. p .0 (forth .0 m); not-after = λ m. p .1 (back .0 m) },
         )
 
   -- "swapping the two negates it"

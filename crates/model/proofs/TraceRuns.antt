@@ -1,7 +1,7 @@
 -- The runs of document 01's rule are the runs of the trace. In order: what the rule asks of an operation; runs;
 -- complete runs; the test of a run.
 use mathlib.Core.Bool.{Bool}
-use mathlib.Core.List.{List, _∷_, _++_, Memᴰ·append-right}
+use mathlib.Core.List.{List, _∷_, _++_, Memᴰ·append-right, append-assoc}
 use mathlib.Core.Logic.{_↔_, Iff·trans}
 use mathlib.Core.Path.{_≡_}
 use Prim.Native.Nat.{ℕ}
@@ -14,9 +14,9 @@ use Rattle.runs.proofs.Before.{before-front, front-before}
 use Rattle.runs.proofs.Booleans.{and-left, and-right, and-intro, if-test}
 use Rattle.runs.proofs.Members.{any-test, in-split, here}
 use Rattle.runs.proofs.ProgramOrder.{turn-test}
-use Rattle.runs.proofs.RunSteps.{run-test}
+use Rattle.runs.proofs.RunSteps.{run-test, run-first}
 use Rattle.trace.specs.Trace.{Trace, operation, workerOf, isPost, isWait}
-use Rattle.model.specs.Runs.{Earlier, Waits, PostFor, PostBefore, RunOf, CompleteRunOf}
+use Rattle.model.specs.Runs.{Earlier, Waits, PostFor, PostBefore, RunOf, CompleteRunOf, CarriedOn}
 use Rattle.model.specs.Moves.{MayRun}
 use Rattle.model.specs.Rule.{posts, posted, unblocked, rule}
 use Rattle.model.proofs.RuleLaws.{rule-monotone}
@@ -116,6 +116,15 @@ module _ (t : Trace) where
 
   pub run-means : {r : List ℕ} → Run (rule t) r ↔ RunOf t r
   run-means = (run-of, of-run)
+
+  -- a run with operations at its end is carried on, one after the other
+  pub longer-carries-on : {r s : List ℕ} → RunOf t (r ++ s) → CarriedOn t r s
+  longer-carries-on {r} {s} p = record { longer = longer }
+    where
+      longer : (u v : List ℕ) → s ≡ u ++ v → RunOf t (r ++ u)
+      longer u v e =
+          let whole : Run (rule t) ((r ++ u) ++ v) = rw (append-assoc, ← e) (of-run p) in
+          run-of (run-first (rule-monotone t) (r ++ u) v whole)
 
   -- ---- complete runs
 

@@ -1,7 +1,7 @@
 -- Largest runs, rows, orders and held-back runs of a trace, computed: what the contracts of the calls cite.
 -- Follows: document 01, "The questions" (10's place), "Order table and order", "Two runs".
 -- Differs: nowhere; what each of them means, by specs/Runs, LargestRuns, Orders and Moves, is shown in proofs/.
-use mathlib.Core.Bool.{Bool, cond}
+use mathlib.Core.Bool.{Bool, cond, not, _&&_}
 use mathlib.Core.List.{List, [], _∷_, _++_}
 use Prim.Native.Nat.{ℕ, zero, suc}
 use lib.IntN.{ℤ, pos, negsuc}
@@ -41,6 +41,10 @@ row t k = countsOf t (largestRunWithout t k) (t .workers)
 -- document 01: is a "certain before" b?
 unfoldable pub mustPrecedeIn : Trace → ℕ → ℕ → Bool
 mustPrecedeIn t a b = mustPrecede (rule t) (order t) a b
+
+-- document 01: "Is neither certain before the other?"
+abbrev pub unorderedIn : Trace → ℕ → ℕ → Bool
+unorderedIn t a b = not (mustPrecedeIn t a b) && not (mustPrecedeIn t b a)
 
 -- document 01: "−1 if the first is certain before the second, +1 if the second is certain before the first, 0 if
 -- neither"

@@ -18,6 +18,15 @@ pub record MustPrecedeIn (t : Trace) (a b : ℕ) : Type 0 where
   pub differ : a ≢ b
   pub outside : (m : List ℕ) → MaximalExecution t a m → b ∉ m
 
+-- neither of the two is certain before the other
+pub record Unordered (t : Trace) (a b : ℕ) : Type 0 where
+  pub not-before : MustPrecedeIn t a b → ⊥
+  pub not-after : MustPrecedeIn t b a → ⊥
+
 -- the letter: "a stands before b in every complete run"
 abbrev pub AlwaysBefore : Trace → ℕ → ℕ → Type 0
 AlwaysBefore t a b = (r : List ℕ) → CompleteRunOf t r → StandsBefore a b r
+
+-- in some complete run
+abbrev pub SometimesBefore : Trace → ℕ → ℕ → Type 0
+SometimesBefore t a b = (r : List ℕ) × CompleteRunOf t r × StandsBefore a b r

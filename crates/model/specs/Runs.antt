@@ -1,7 +1,7 @@
 -- Runs of a trace.
 -- Follows: document 01, "Runs"; its sentences stand at the fields. A run is a list of operation numbers.
 -- Differs: nowhere. "Stands before" is the theory's: both stand in the list, the one after the other.
-use mathlib.Core.List.{List}
+use mathlib.Core.List.{List, _++_}
 use mathlib.Core.Path.{_≡_}
 use Prim.Native.Nat.{ℕ, _<_}
 use lib.Dec.{T}
@@ -45,3 +45,8 @@ pub record CompleteRunOf (t : Trace) (r : List ℕ) : Type 0 where
 -- the trace has no complete run
 abbrev pub NoCompleteRun : Trace → Type 0
 NoCompleteRun t = (r : List ℕ) → CompleteRunOf t r → ⊥
+
+-- document 01: a run r "is carried on by adding operations at its end so that the longer list is a run too": s is
+-- added, and each longer list on the way is a run
+pub record CarriedOn (t : Trace) (r s : List ℕ) : Type 0 where
+  pub longer : (u v : List ℕ) → s ≡ u ++ v → RunOf t (r ++ u)

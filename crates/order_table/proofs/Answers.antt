@@ -7,6 +7,7 @@ use Prim.Native.Nat.{ℕ, _*_, _<_, _≤_}
 use lib.ListN.{length}
 use Rattle.runs.proofs.Booleans.{zero-one}
 use Rattle.trace.specs.Premises.{HoldsTrace}
+use Rattle.trace.specs.Refusals.{by-earlier, by-this}
 use Rattle.trace.specs.Reading.{Reading, refused, traceOf}
 use Rattle.trace.specs.Trace.{size}
 use Rattle.trace.proofs.Outcomes.{TellsRefusals, outcome-refused, outcome-reads}
@@ -18,8 +19,8 @@ use Rattle.lent.specs.Written.{writtenOver}
 use Rattle.order_table.specs.declared.TableAnswer.the-variants.{Filled, Refused}
 use Rattle.order_table.specs.Table.{orderTable, tableReading, answerOf, leftBy, tableAnswer, tableAfter}
 use Rattle.order_table.specs.Table.{TableCall}
-use Rattle.order_table.specs.Refusals.{RefusedTable, by-file, by-room}
-use Rattle.order_table.proofs.Questions.{reads-table, refused-table}
+use Rattle.order_table.specs.Refusals.{RefusedTable}
+use Rattle.order_table.proofs.Questions.{table-comes-out}
 
 -- ---- by the outcome of the questions
 
@@ -38,20 +39,21 @@ module _ {bytes : List ℕ} {p n : ℕ} (a : AcceptedTrace bytes (traceOf bytes)
     pub call-filled : n * p ≤ length lent → {now : List ℕ} → now ≡ writtenOver (orderTable (traceOf bytes)) lent
         → TableCall bytes lent (Filled p n) now
     call-filled l i =
-        let c = call-by bytes lent (reads-table bytes (length lent) (traceOf bytes) .1 (a .0, rw numbers l)) in
+        let passed = table-comes-out bytes (length lent) .passes (traceOf bytes) .1 (a .0, rw numbers l) in
+        let c = call-by bytes lent passed in
         record { answers = rw (a .1 .workers, a .1 .count) at (c .answers); leaves = i ∙ c .leaves }
 
     pub call-short : length lent < n * p → TableCall bytes lent (Refused 11 0) lent
-    call-short l = call-by bytes lent (refused-table bytes (length lent) 11 0 .1 short)
+    call-short l = call-by bytes lent (table-comes-out bytes (length lent) .refuses 11 0 .1 short)
       where
         short : RefusedTable bytes (length lent) 11 0
-        short = by-room (traceOf bytes) (a .0) (rw numbers l) refl refl
+        short = by-this (traceOf bytes) (a .0) (rw numbers l) refl refl
 
 pub call-refused : (bytes lent : List ℕ) {q k : ℕ} → acceptAnswer bytes ≡ accept.Refused q k
     → TableCall bytes lent (Refused q k) lent
 call-refused bytes lent {q} {k} i =
-    let refusal = by-file (refused-file bytes q k .0 (answer-means bytes q k .0 i)) in
-    call-by bytes lent (refused-table bytes (length lent) q k .1 refusal)
+    let refusal = by-earlier (refused-file bytes q k .0 (answer-means bytes q k .0 i)) in
+    call-by bytes lent (table-comes-out bytes (length lent) .refuses q k .1 refusal)
 
 -- ---- what the answer says
 
@@ -70,7 +72,7 @@ module _ (bytes lent : List ℕ) where
   unfolding tableAnswer
   table-filled p n a =
       let (t, e, i) = outcome-reads answerOf (λ q k z. zero-one cc) (tableReading bytes (length lent)) a in
-      let (accepted, l) = reads-table bytes (length lent) t .0 e in
+      let (accepted, l) = table-comes-out bytes (length lent) .passes t .0 e in
       let ep : t .workers ≡ p = cc in
       let en : size t ≡ n = cc in
       (rw (accepted-trace accepted) accepted, rw (ep, en) at (accepted-holds accepted), rw (ep, en) at l)

@@ -20,7 +20,7 @@ use Rattle.accept.proofs.Questions.{accepted-workers}
 use Rattle.lent.specs.Written.{writtenOver}
 use Rattle.lent.proofs.Writing.{written-length, written-past}
 use Rattle.order_table.specs.Table.{rows, orderTable, tableReading, tableAfter}
-use Rattle.order_table.proofs.Questions.{reads-table}
+use Rattle.order_table.proofs.Questions.{table-comes-out}
 use Rattle.order_table.proofs.Answers.{call-by}
 use Rattle.order_table.proofs.Rows.{rows-length}
 
@@ -49,7 +49,7 @@ after-length bytes lent = go (tableReading bytes (length lent)) refl
     go : (r : Reading) → tableReading bytes (length lent) ≡ r → length (tableAfter bytes lent) ≡ length lent
     go (refused q k) e = rw (← call-by bytes lent e .leaves)
     go (reads t) e =
-        let fits = reads-table bytes (length lent) t .0 e .1 in
+        let fits = table-comes-out bytes (length lent) .passes t .0 e .1 in
         rw (← call-by bytes lent e .leaves) (written-length (orderTable t) lent (rw (rows-length t (size t)) fits))
 
 -- ---- after success
@@ -57,7 +57,7 @@ after-length bytes lent = go (tableReading bytes (length lent)) refl
 module _ {bytes : List ℕ} {t : Trace} (a : AcceptedTrace bytes t) (lent : List ℕ)
     (l : size t * t .workers ≤ length lent) where
   after-filled : tableAfter bytes lent ≡ writtenOver (orderTable t) lent
-  after-filled = sym (call-by bytes lent (reads-table bytes (length lent) t .1 (a, l)) .leaves)
+  after-filled = sym (call-by bytes lent (table-comes-out bytes (length lent) .passes t .1 (a, l)) .leaves)
 
   pub after-row : (k : ℕ) → k < size t → take (t .workers) (drop (k * t .workers) (tableAfter bytes lent)) ≡ row t k
   after-row k i = rw after-filled (rows-part t (size t) k (drop (length (orderTable t)) lent) i)

@@ -2,7 +2,7 @@
 -- A test is explicit in each law: `T` computes, so nothing shows which test it was.
 use mathlib.Core.Bool.{Bool, true, false, not, _&&_, _||_}
 use mathlib.Core.Logic.{_⊎_, inl, inr, _↔_, _≢_}
-use mathlib.Core.Path.{_≡_, refl}
+use mathlib.Core.Path.{_≡_, refl, sym}
 use Prim.Native.Nat.{ℕ, _<_, _≤_}
 use native.Mathlib.Omega.{arith}
 use lib.Dec.{T, eqb, eqb→eq, eqb-refl, ltb, ltb→lt, nltb→le, T-not}
@@ -42,6 +42,27 @@ test-true b = (λ e. rw e tt, go b)
     go : (b : Bool) → T b → b ≡ true
     go true h = refl
     go false h = absurd h
+
+-- what it means that two tests pass, and that one of them does not, by what it means of each
+pub both-pass : {X Y : Type 0} (a b : Bool) → (a ≡ true) ↔ X → (b ≡ true) ↔ Y → (a && b ≡ true) ↔ (X × Y)
+both-pass true b f g = (λ e. (f .0 refl, g .0 e), λ p. g .1 (p .1))
+both-pass false b f g = (λ e. absurd (test-true false .0 e), λ p. f .1 (p .0))
+
+pub one-fails : {X Y : Type 0} (a b : Bool) → (a ≡ false) ↔ X → (b ≡ false) ↔ Y → (a && b ≡ false) ↔ (X ⊎ Y)
+one-fails true b f g = (
+  λ e. inr (g .0 e),
+  λ s. elim s [ inl x ↦ absurd (test-true false .0 (sym (f .1 x))) | inr y ↦ g .1 y ],
+)
+one-fails false b f g = (λ e. inl (f .0 e), λ s. refl)
+
+-- and of a test turned round
+pub not-passes : {X : Type 0} (a : Bool) → T a ↔ X → (not a ≡ true) ↔ (X → ⊥)
+not-passes true f = (λ e x. test-true false .0 e, λ g. absurd (g (f .0 tt)))
+not-passes false f = (λ e x. f .1 x, λ g. refl)
+
+pub not-fails : {X : Type 0} (a : Bool) → T a ↔ X → (not a ≡ false) ↔ X
+not-fails true f = (λ e. f .0 tt, λ x. refl)
+not-fails false f = (λ e. absurd (test-true false .0 (sym e)), λ x. absurd (f .1 x))
 
 -- a test that is asked only where another passes
 pub if-test : (a b : Bool) → T (not a || b) ↔ (T a → T b)

@@ -1,7 +1,8 @@
 -- Which refusal a file gets, said without following the reader: by the first "no".
 -- Follows: document 01, "The questions": "asked in this order; the first 'no' gives its number", "then record by record
 -- in file order"; "a refusal is the number and a place: the operation number for 5 to 9", otherwise 0.
--- Differs: the form is a parameter. proofs/FirstNo shows that reading refuses exactly so.
+-- Differs: the form is a parameter. proofs/FirstNo shows that reading refuses exactly so, and proofs/Outcomes that a
+-- further question (`thenAsk`) does.
 use mathlib.Core.List.{List, [], _∷_}
 use mathlib.Core.Path.{_≡_}
 use Prim.Native.Nat.{ℕ, zero, suc, _<_, _≤_}
@@ -9,6 +10,7 @@ use lib.ListN.{drop}
 use Rattle.trace.specs.declared.Operation.{Operation}
 use Rattle.trace.specs.Form.{Form, base, recordSize, start}
 use Rattle.trace.specs.Questions.{operationIn, headerQuestion, recordQuestion}
+use Rattle.trace.specs.Trace.{Trace}
 
 -- the operations written in the n records that the bytes start with
 unfoldable pub operationsIn : Form → ℕ → List ℕ → List Operation
@@ -37,3 +39,10 @@ FileRefusedFirst bytes q k = RefusedFirst base bytes q k
 pub data Refusal (n q k : ℕ) : Type 0 where
   one-to-four : 1 ≤ q → q ≤ 4 → k ≡ 0 → Refusal n q k
   five-to-nine : 5 ≤ q → q ≤ 9 → k < n → Refusal n q k
+
+-- what a call gets that asks a further question of the trace: the refusal by the first "no" of the questions before; or
+-- they let a trace pass, this one's answer is "no", and its number and place are given
+pub data RefusedNext (Before : ℕ → ℕ → Type 0) (Passed : Trace → Type 0) (number : ℕ) (No : Trace → Type 0)
+    (place : Trace → ℕ) (q k : ℕ) : Type 0 where
+  by-earlier : Before q k → RefusedNext Before Passed number No place q k
+  by-this : (t : Trace) → Passed t → No t → q ≡ number → k ≡ place t → RefusedNext Before Passed number No place q k

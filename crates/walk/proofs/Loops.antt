@@ -1,7 +1,7 @@
 -- The loops of the walk, step by step. In order: the loop that looks for the worker that moves; the loop that takes the
 -- steps; the loop that looks for the lowest operation left.
 use mathlib.Core.Bool.{Bool, true, false}
-use mathlib.Core.List.{List}
+use mathlib.Core.List.{List, [], _∷_}
 use mathlib.Core.Path.{_≡_, refl, sym, _∙_}
 use native.Mathlib.Nat.{sub-zero}
 use native.Mathlib.Numerals.{add-one, sub-one}
@@ -13,9 +13,10 @@ use Rattle.trace.specs.Premises.{HoldsTrace}
 use Rattle.trace.specs.Reading.{traceOf}
 use Rattle.trace.specs.Trace.{Trace, size, workerOf}
 use Rattle.walk.specs.declared.Walk.{Walk}
-use Rattle.walk.specs.Walks.{nextOf, mayRun, moveFrom, move, added, walkFrom, lowestLeft}
+use Rattle.walk.specs.Walks.{nextOf, mayRun, moveFrom, move, added, walkFrom, runFrom, lowestLeft}
 use Rattle.walk.proofs.NextOperations.{rth-few, next-rth}
 use Rattle.walk.proofs.Moves.{may-below, Moved, from-here, from-next, from-none, move-some, walk-stop, walk-step}
+use Rattle.walk.proofs.Moves.{run-stop, run-step}
 
 -- ---- the loop that looks for the worker that moves: k is the next operation of worker q, of p
 
@@ -61,6 +62,14 @@ module _ {bytes : List ℕ} {p n : ℕ} (x : HoldsTrace bytes p n) (a : ℕ) (w 
       → walkFrom (traceOf bytes) a w s ≡ walkFrom (traceOf bytes) a w′ (s - 1)
   step-at zero z h f = absurd (omega arith)
   step-at (suc s) z h f = rw (f, e, sub-one) (walk-step (traceOf bytes) a w s (omega (arith, x .count)))
+
+  pub run-stop-at : (s : ℕ) → n ≤ k → runFrom (traceOf bytes) a w s ≡ []
+  run-stop-at s h = run-stop (traceOf bytes) a w s (omega (arith, x .count))
+
+  pub run-step-at : (s : ℕ) → 0 < s → k < n → {w′ : Walk} → w′ ≡ added (traceOf bytes) w k
+      → runFrom (traceOf bytes) a w s ≡ k ∷ runFrom (traceOf bytes) a w′ (s - 1)
+  run-step-at zero z h f = absurd (omega arith)
+  run-step-at (suc s) z h f = rw (f, e, sub-one) (run-step (traceOf bytes) a w s (omega (arith, x .count)))
 
 -- ---- the lowest operation left, of the workers below q: k is the next operation of worker q
 

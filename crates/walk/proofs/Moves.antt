@@ -3,12 +3,13 @@
 use mathlib.Core.Bool.{Bool, true, false, cond}
 use mathlib.Core.List.{List, [], _∷_}
 use mathlib.Core.Logic.{_⊎_, inl, inr, _≢_}
-use mathlib.Core.Path.{_≡_, refl, _∙_}
+use mathlib.Core.Path.{_≡_, refl, sym, ap, _∙_}
 use native.Mathlib.Omega.{arith}
 use Prim.Native.Nat.{ℕ, zero, suc, _+_, _<_, _≤_}
 use lib.Dec.{ltb}
+use lib.ListN.{take}
 use borrow.Author.Tests.{lt-ltb, le-ltb, ltb-true}
-use Rattle.runs.proofs.Booleans.{equal?, zero-one}
+use Rattle.runs.proofs.Booleans.{equal?, less?, zero-one}
 use Rattle.trace.specs.Trace.{Trace, size}
 use Rattle.walk.specs.declared.Walk.{Walk}
 use Rattle.walk.specs.Walks.{nextOf, mayRun, moveFrom, move, added, walkFrom, runFrom}
@@ -146,3 +147,16 @@ module _ (t : Trace) (a : ℕ) (w : Walk) where
     pub run-step : runFrom t a w (suc s) ≡ move t a w ∷ runFrom t a (added t w (move t a w)) s
     unfolding runFrom
     run-step = simp (lt-ltb _ _ h)
+
+-- fewer steps add the beginning of what more steps add
+pub run-fewer : (t : Trace) (a m s : ℕ) (w : Walk) → m ≤ s → take m (runFrom t a w s) ≡ runFrom t a w m
+run-fewer t a zero s w l = sym (run-zero t a w)
+run-fewer t a (suc m) zero w l = absurd (omega arith)
+run-fewer t a (suc m) (suc s) w l =
+    elim (less? (move t a w) (size t)) [
+      | inl h ↦
+          let k = move t a w in
+          let rest = run-fewer t a m s (added t w k) (omega arith) in
+          rw (run-step t a w s h, run-step t a w m h) (ap (λ (r : List ℕ). k ∷ r) rest)
+      | inr h ↦ rw (run-stop t a w (suc s) h, run-stop t a w (suc m) h)
+    ]

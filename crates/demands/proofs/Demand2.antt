@@ -1,9 +1,9 @@
--- The customer's demands, sentence by sentence, as theorems about what the calls answer and leave in lent memory: the
--- definitions that their contracts cite, at any file bytes and lent memory. A sentence that a call has part in is here
--- from the landing of that call on.
-use mathlib.Core.List.{List, _++_}
+-- The customer's demand 2, sentence by sentence, as theorems about what the calls answer and leave in lent memory: the
+-- definitions that their contracts cite, at any file bytes and lent memory. A sentence is stated of the calls that
+-- there are.
+use mathlib.Core.List.{List}
 use mathlib.Core.Logic.{_↔_, _≢_, Iff·trans}
-use mathlib.Core.Path.{_≡_, sym}
+use mathlib.Core.Path.{_≡_}
 use native.Mathlib.Nat.{le-refl}
 use native.Mathlib.Omega.{arith}
 use Prim.Native.Nat.{ℕ, _+_, _*_, _<_, _≤_}
@@ -16,78 +16,15 @@ use Rattle.trace.specs.Trace.{Trace, size, workerOf, rank}
 use Rattle.trace.proofs.Refusals.{file-refused-first, file-refused}
 use Rattle.model.specs.LargestRuns.{MaximalExecution, LargestRun, LowestOutside}
 use Rattle.model.specs.Orders.{MustPrecedeIn}
-use Rattle.model.specs.Runs.{RunOf, CompleteRunOf, NoCompleteRun}
-use Rattle.model.proofs.Largest.{execution-exists, execution-nothing, carried-on}
-use Rattle.accept.specs.declared.AcceptAnswer.{AcceptAnswer}
-use Rattle.accept.specs.declared.AcceptAnswer.the-variants.{Accepted, Refused}
-use Rattle.accept.specs.Acceptance.{acceptance, AcceptedTrace, acceptAnswer}
+use Rattle.model.specs.Runs.{CompleteRunOf, NoCompleteRun}
+use Rattle.model.proofs.Largest.{execution-exists, execution-nothing}
+use Rattle.accept.specs.Acceptance.{AcceptedTrace, acceptAnswer}
 use Rattle.accept.specs.Refusals.{RefusedFile, by-reading, by-runs}
-use Rattle.accept.specs.Acceptance as accept
+use Rattle.accept.specs.declared.AcceptAnswer.the-variants.{Accepted, Refused}
 use Rattle.accept.proofs.Answers.{answer-means, accepted-answer}
-use Rattle.accept.proofs.Questions.{refused-place, accepted-complete, refused-incomplete, accepted-run, refused-file}
-use Rattle.accept.proofs.Questions.{refused-number}
-use Rattle.order_table.specs.declared.TableAnswer.{TableAnswer}
-use Rattle.order_table.specs.declared.TableAnswer.the-variants as table
-use Rattle.order_table.specs.Table.{tableReading, tableAnswer, tableAfter}
-use Rattle.order_table.specs.Table as order-table
-use Rattle.order_table.proofs.Answers.{call-by, call-refused, table-refused}
-use Rattle.order_table.proofs.Questions.{reads-table, refused-table, refused-table-number}
-use Rattle.order_table.proofs.Entries.{after-length, after-execution, after-must-precede, after-past}
-use Rattle.demands.specs.Outcomes.{AcceptOutcome, TableOutcome}
-use Rattle.demands.proofs.Outcomes.{outcome-exactly}
-
--- ---- Demand 1
-
--- "Every entry takes all bytes and numbers, finishes, and either gives its result or a refusal number from document
--- 01's questions."
-
--- Reading a file answers the counts of the accepted trace, or the refusal by the first "no", and nothing else:
-pub reading-answers : (bytes : List ℕ) (x : AcceptAnswer) → (acceptAnswer bytes ≡ x) ↔ AcceptOutcome bytes x
-unfolding acceptAnswer
-reading-answers bytes x = outcome-exactly accept.answerOf (acceptance bytes) passed (refused-file bytes) x
-  where
-    passed : (t : Trace) → (acceptance bytes ≡ reads t) ↔ AcceptedTrace bytes t
-    passed t = (λ e. record { passes = e }, λ a. a .passes)
-
--- Its refusal numbers are questions 1 to 10:
-pub reading-numbers : (bytes : List ℕ) (q k : ℕ) → acceptAnswer bytes ≡ Refused q k → (1 ≤ q) × (q ≤ 10)
-reading-numbers bytes q k a = refused-number (refused-file bytes q k .0 (answer-means bytes q k .0 a))
-
--- "Accepted", which other sentences speak of, is this: the file reads as t, and the answer is t's counts.
-pub accepted-means : (bytes : List ℕ) (t : Trace)
-    → AcceptedTrace bytes t ↔ ((fileReading bytes ≡ reads t) × (acceptAnswer bytes ≡ Accepted (t .workers) (size t)))
-accepted-means bytes t = accepted-answer bytes t
-
--- The order table answers the counts of the accepted trace where the lent table holds at least n × p numbers, or the
--- refusal by the first "no", and nothing else:
-pub table-answers : (bytes lent : List ℕ) (x : TableAnswer)
-    → (tableAnswer bytes lent ≡ x) ↔ TableOutcome bytes (length lent) x
-unfolding tableAnswer
-table-answers bytes lent x =
-    let room = length lent in
-    outcome-exactly order-table.answerOf (tableReading bytes room) (reads-table bytes room) (refused-table bytes room) x
-
--- Its refusal numbers are questions 1 to 11:
-pub table-numbers : (bytes lent : List ℕ) (q k : ℕ) → tableAnswer bytes lent ≡ table.Refused q k → (1 ≤ q) × (q ≤ 11)
-table-numbers bytes lent q k a =
-    refused-table-number (refused-table bytes (length lent) q k .0 (table-refused bytes lent q k .0 a))
-
--- document 01: "Every call that takes a file asks 1 to 10 of it itself." What reading the file refuses, it refuses
--- alike, whatever table it is lent:
-pub table-refuses-file : (bytes lent : List ℕ) (q k : ℕ) → acceptAnswer bytes ≡ Refused q k
-    → tableAnswer bytes lent ≡ table.Refused q k
-table-refuses-file bytes lent q k a = sym (call-refused bytes lent a .answers)
-
--- "A refusal leaves lent memory untouched, but for [...]": the one table that is excepted is not this call's.
-pub table-untouched : (bytes lent : List ℕ) (q k : ℕ) → tableAnswer bytes lent ≡ table.Refused q k
-    → tableAfter bytes lent ≡ lent
-table-untouched bytes lent q k a = sym (call-by bytes lent (table-refused bytes lent q k .0 a) .leaves)
-
--- Whatever is answered, the table is as long as it was:
-pub table-length : (bytes lent : List ℕ) → length (tableAfter bytes lent) ≡ length lent
-table-length bytes lent = after-length bytes lent
-
--- ---- Demand 2
+use Rattle.accept.proofs.Questions.{refused-place, accepted-complete, refused-incomplete, refused-file}
+use Rattle.order_table.specs.Table.{tableAfter}
+use Rattle.order_table.proofs.Entries.{after-execution, after-must-precede, after-past}
 
 -- "The table [is that] of the maximal valid executions of Wisconsin report 1084."
 
@@ -165,10 +102,3 @@ refused-ten-only bytes k a = go (refused-file bytes 10 k .0 (answer-means bytes 
         not-by-reading (one-to-four h l z) = omega arith
         not-by-reading (five-to-nine h l z) = omega arith
     go (by-runs t e n o) = (t, e, refused-ten-exactly bytes t e .0 (k, a))
-
--- ---- Demand 3
-
--- "And every run of an accepted trace that is not yet complete can be carried on to a complete one":
-pub run-carried-on : {bytes : List ℕ} {t : Trace} → AcceptedTrace bytes t → {r : List ℕ} → RunOf t r
-    → (s : List ℕ) × CompleteRunOf t (r ++ s)
-run-carried-on {t = t} a p = carried-on t p (accepted-run a)

@@ -1,0 +1,63 @@
+-- `first_index` meets its contract: x does not appear in the first i numbers.
+-- Assumes nothing.
+use mathlib.Core.Path.{sym, _∙_}
+use native.Mathlib.Omega.{arith}
+use Prim.Native.Nat.{_-_}
+use lib.ListN.{length}
+use borrow.Author.Needs.{needs}
+use Rattle.beginning.proofs.Indices.{Searched, searched-none, searched-more, searched-found, searched-all}
+use Rattle.beginning.proofs.first_index.Statement.{statement}
+use Rattle.beginning.proofs.first_index.Tie as tie
+
+abbrev Inv-loop : tie.InvT-loop
+Inv-loop list x i₀ i = Searched list x i
+
+abbrev μ-loop : tie.MeasureT-loop
+μ-loop list x i₀ i = length list - i
+
+loop-holds : tie.Need-loop-holds Inv-loop μ-loop
+loop-holds c = searched-none _ _
+
+mul-wide : tie.Need-mul-wide Inv-loop μ-loop
+mul-wide c = search needs
+
+shared-slice-read-wide : tie.Need-shared-slice-read-wide Inv-loop μ-loop
+shared-slice-read-wide c = search needs
+
+wide-requires : tie.Need-wide-requires Inv-loop μ-loop
+wide-requires c κs = search needs
+
+returns : tie.Need-returns Inv-loop μ-loop
+returns c =
+    let c4 = c .before .before .before .before in
+    searched-found (c4 .loop .inv) (omega arith) (sym (c .before .wide .ensures) ∙ c .if1 .taken)
+
+add-i : tie.Need-add-i Inv-loop μ-loop
+add-i c = search needs
+
+loop-less : tie.Need-loop-less Inv-loop μ-loop
+loop-less c = search needs
+
+loop-again : tie.Need-loop-again Inv-loop μ-loop
+loop-again c =
+    let c4 = c .before .before .before .before in
+    searched-more (c4 .loop .inv) (omega arith) (λ e. c .if1 .left (c .before .wide .ensures ∙ e))
+
+returns-2 : tie.Need-returns-2 Inv-loop μ-loop
+returns-2 c = searched-all (c .before .loop .inv) (c .loop-test .left)
+
+pub first-index-spec : {M : Type 1} → statement M
+first-index-spec =
+    tie.close
+    (tie.spec
+    Inv-loop
+    μ-loop
+    loop-holds
+    mul-wide
+    shared-slice-read-wide
+    wide-requires
+    returns
+    add-i
+    loop-less
+    loop-again
+    returns-2)

@@ -1,0 +1,73 @@
+// The beginning of a run, up to a chosen number, as a part of one of two lent lists.
+ghost use mathlib.Core.Path.{_≡_};
+ghost use Rattle.beginning.specs.Computed.{firstIndex, beginningLength, prefixOf, BeginningCall};
+
+// The first numbers of one of the two lists: which list, and how many.
+pub enum Prefix {
+    OfFirst { length: usize },
+    OfSecond { length: usize },
+}
+
+// A 16-bit number of a list, as wide as the numbers that it is compared with.
+fn wide(x: u16) -> u32
+    ensures { λ r. ⌜ r ≡ x ⌝ }
+{
+    x as u32
+}
+
+// The index of the first appearance of x, or the list's length where it does not appear.
+fn first_index(list: &[u16], x: u32) -> usize
+    ensures { λ r. ⌜ r ≡ firstIndex (now (list .entry)) x ⌝ }
+{
+    let mut i = 0;
+    while i < list.len() {
+        if wide(list[i]) == x {
+            return i;
+        }
+        i += 1;
+    }
+    i
+}
+
+// How long the part of the list is that ends with the first appearance of `chosen`, where `other` appears after it and
+// not before it; else 0.
+fn beginning_length(list: &[u16], chosen: u32, other: u32) -> usize
+    ensures { λ r. ⌜ r ≡ beginningLength (now (list .entry)) chosen other ⌝ }
+{
+    let c = first_index(list, chosen);
+    let o = first_index(list, other);
+    if c < o {
+        if o < list.len() {
+            return c + 1;
+        }
+        return 0;
+    }
+    0
+}
+
+// Which list the beginning is a part of, and how long it is; where neither has one, nothing of the first list.
+pub fn which_prefix(first: &[u16], second: &[u16], chosen: u32, other: u32) -> Prefix
+    ensures { λ r. ⌜ r ≡ prefixOf (now (first .entry)) (now (second .entry)) chosen other ⌝ }
+{
+    let of_first = beginning_length(first, chosen, other);
+    if 0 < of_first {
+        return Prefix::OfFirst { length: of_first };
+    }
+    let of_second = beginning_length(second, chosen, other);
+    if 0 < of_second {
+        return Prefix::OfSecond { length: of_second };
+    }
+    Prefix::OfFirst { length: 0 }
+}
+
+// The part of the first list that ends with the first appearance of `chosen`, where `other` appears after it and not
+// before it; failing that, the same part of the second list; failing both, the empty part at the first list's start.
+pub fn beginning<'a>(first: &'a [u16], second: &'a [u16], chosen: u32, other: u32) -> &'a [u16]
+    ensures { λ r. ⌜ BeginningCall (now (first .entry)) (now (second .entry)) chosen other
+        (first .entry .ptr) (second .entry .ptr) (now r) (r .ptr) ⌝ }
+{
+    match which_prefix(first, second, chosen, other) {
+        Prefix::OfFirst { length } => &first[0..length],
+        Prefix::OfSecond { length } => &second[0..length],
+    }
+}

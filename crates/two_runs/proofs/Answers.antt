@@ -1,0 +1,164 @@
+-- What the call answers and leaves in the two buffers. In order: the order of the pair, as the code tests it; by the
+-- outcome of the questions; as the code comes to it; what the answer says.
+use mathlib.Core.List.{List}
+use mathlib.Core.Logic.{_⊎_, inl, inr, _↔_, _≢_}
+use mathlib.Core.Path.{_≡_, refl, sym, _∙_}
+use native.Mathlib.Omega.{arith}
+use Prim.Native.Nat.{ℕ, _<_, _≤_}
+use lib.IntN.{ℤ, pos, negsuc}
+use lib.ListN.{length}
+use mir.Syntax.{w8}
+use mir.Val.{ofZ}
+use Rattle.runs.proofs.Booleans.{zero-one}
+use Rattle.trace.specs.Premises.{HoldsTrace}
+use Rattle.trace.specs.Reading.{Reading, refused, traceOf}
+use Rattle.trace.specs.Refusals.{by-earlier, by-this}
+use Rattle.trace.specs.Trace.{Trace, size}
+use Rattle.trace.proofs.Outcomes.{TellsRefusals, outcome-refused, outcome-reads}
+use Rattle.model.specs.Computed.{pairOrder}
+use Rattle.model.specs.Orders.{MustPrecedeIn}
+use Rattle.model.proofs.SharedOrder.{pair-order-zero, pair-order-some, pair-order-one-of}
+use Rattle.accept.specs.declared.AcceptAnswer.the-variants as accept
+use Rattle.accept.specs.Acceptance.{AcceptedTrace, acceptAnswer}
+use Rattle.accept.proofs.Questions.{accepted-workers, accepted-trace}
+use Rattle.pair_order.specs.declared.OrderAnswer.the-variants as order
+use Rattle.pair_order.specs.Order.{orderAnswer}
+use Rattle.pair_order.specs.Refusals.{AcceptedPair}
+use Rattle.pair_order.proofs.Answers.{answer-unaccepted, order-refused, order-ordered}
+use Rattle.pair_order.proofs.Orders.{answer-sign}
+use Rattle.pair_order.proofs.Questions.{pair-comes-out}
+use Rattle.two_runs.specs.declared.RunsAnswer.the-variants.{Runs, Refused}
+use Rattle.two_runs.specs.Premises.{BothWritten}
+use Rattle.two_runs.specs.Refusals.{AcceptedUnordered, AcceptedRuns, RefusedOrdered, RefusedRuns}
+use Rattle.two_runs.specs.Runs.{runsReading, answerOf, leftBy, runsAnswer, firstAfter, secondAfter, RunsCall}
+use Rattle.two_runs.proofs.Questions.{runs-comes-out}
+
+-- ---- the order of the pair
+
+-- it is 0 exactly if its eight bits are
+order-bits : (t : Trace) (a b : ℕ) → (ofZ w8 (pairOrder t a b) ≡ 0) ↔ (pairOrder t a b ≡ pos 0)
+order-bits t a b = go (pairOrder t a b) (pair-order-one-of t a b)
+  where
+    go : (z : ℤ) → (z ≡ negsuc 0) ⊎ (z ≡ pos 1) ⊎ (z ≡ pos 0) → (ofZ w8 z ≡ 0) ↔ (z ≡ pos 0)
+    go z (inl e) = rw e (λ i. absurd (omega (arith, i)), λ i. absurd (zero-one cc))
+    go z (inr (inl e)) = rw e (λ i. absurd (omega (arith, i)), λ i. absurd (zero-one cc))
+    go z (inr (inr e)) = rw e (λ i. refl, λ i. refl)
+
+-- the code tests the bits
+module _ (bytes : List ℕ) (a b : ℕ) {sign : ℤ} (o : orderAnswer bytes a b ≡ order.Ordered sign) where
+  known : AcceptedPair bytes a b (traceOf bytes) × (sign ≡ pairOrder (traceOf bytes) a b)
+  known = order-ordered bytes a b sign o
+
+  pub pair-unordered : ofZ w8 sign ≡ 0 → AcceptedUnordered bytes a b (traceOf bytes)
+  pair-unordered e =
+      let zero = order-bits (traceOf bytes) a b .0 (rw (known .1) at e) in
+      let unordered = pair-order-zero (accepted-workers (known .0 .numbers .accepted)) a b .0 zero in
+      record { pair = known .0; unordered = unordered }
+
+  pair-ordered : (ofZ w8 sign ≡ 0 → ⊥) → MustPrecedeIn (traceOf bytes) a b ⊎ MustPrecedeIn (traceOf bytes) b a
+  pair-ordered d = pair-order-some (accepted-workers (known .0 .numbers .accepted)) a b some
+    where
+      some : pairOrder (traceOf bytes) a b ≢ pos 0
+      some e = d (rw (known .1) (order-bits (traceOf bytes) a b .1 e))
+
+module _ (bytes : List ℕ) (a b : ℕ) (first second : List ℕ) where
+  -- ---- by the outcome of the questions
+
+  pub call-by : {r : Reading} → runsReading bytes a b (length first) (length second) ≡ r
+      → RunsCall bytes a b first second (answerOf r) (leftBy b r first) (leftBy a r second)
+  unfolding runsAnswer firstAfter secondAfter
+  call-by e = record { answers = rw e; leaves-first = rw e; leaves-second = rw e }
+
+  by-no : {q k : ℕ} → RefusedRuns bytes a b (length first) (length second) q k
+      → RunsCall bytes a b first second (Refused q k) first second
+  by-no {q} {k} r = call-by (runs-comes-out bytes a b (length first) (length second) .refuses q k .1 r)
+
+  -- ---- as the code comes to it
+
+  module _ {p n : ℕ} (f : AcceptedUnordered bytes a b (traceOf bytes)) (h : HoldsTrace bytes p n) where
+    pub call-short : (length first < n) ⊎ (length second < n)
+        → RunsCall bytes a b first second (Refused 15 0) first second
+    call-short s = by-no short
+      where
+        short : RefusedRuns bytes a b (length first) (length second) 15 0
+        short = by-this (traceOf bytes) f (rw (h .count) s) refl refl
+
+    pub call-runs : n ≤ length first → n ≤ length second → {first-now second-now : List ℕ}
+        → BothWritten (traceOf bytes) a b first first-now second second-now
+        → RunsCall bytes a b first second (Runs n) first-now second-now
+    call-runs i j w =
+        let c = call-by (runs-comes-out bytes a b (length first) (length second) .passes (traceOf bytes) .1 runs) in
+        record {
+          answers = rw (h .count) at (c .answers);
+          leaves-first = w .first-written ∙ c .leaves-first;
+          leaves-second = w .second-written ∙ c .leaves-second;
+        }
+      where
+        runs : AcceptedRuns bytes a b (length first) (length second) (traceOf bytes)
+        runs = record { accepted = f; first-holds = rw (h .count) i; second-holds = rw (h .count) j }
+
+  pub call-ordered : {sign : ℤ} → orderAnswer bytes a b ≡ order.Ordered sign → (ofZ w8 sign ≡ 0 → ⊥)
+      → RunsCall bytes a b first second (Refused 14 0) first second
+  call-ordered o d = by-no (by-earlier ordered)
+    where
+      ordered : RefusedOrdered bytes a b 14 0
+      ordered = by-this (traceOf bytes) (known bytes a b o .0) (pair-ordered bytes a b o d) refl refl
+
+  pub call-unpaired : {q k : ℕ} → orderAnswer bytes a b ≡ order.Refused q k
+      → RunsCall bytes a b first second (Refused q k) first second
+  call-unpaired {q} {k} o =
+      by-no (by-earlier (by-earlier (pair-comes-out bytes a b .refuses q k .0 (order-refused bytes a b q k .0 o))))
+
+  pub call-refused : {q k : ℕ} → acceptAnswer bytes ≡ accept.Refused q k
+      → RunsCall bytes a b first second (Refused q k) first second
+  call-refused i = call-unpaired (sym (answer-unaccepted bytes a b i))
+
+  -- ---- what the answer says
+
+  pub runs-refused : (q k : ℕ)
+      → (runsAnswer bytes a b first second ≡ Refused q k)
+      ↔ (runsReading bytes a b (length first) (length second) ≡ refused q k)
+  unfolding runsAnswer
+  runs-refused q k = outcome-refused answerOf tells (runsReading bytes a b (length first) (length second)) q k
+    where
+      tells : TellsRefusals answerOf
+      tells = record { apart = λ q k t z. zero-one cc; same = λ q k x y z. cc }
+
+  -- for an accepted file: neither must precede the other, and the buffers are long enough; the count is n
+  pub runs-given : {t : Trace} → AcceptedTrace bytes t → (m : ℕ)
+      → (runsAnswer bytes a b first second ≡ Runs m)
+      ↔ (AcceptedRuns bytes a b (length first) (length second) t × (m ≡ size t))
+  unfolding runsAnswer
+  runs-given {t} h m = (forth, back)
+    where
+      forth : answerOf (runsReading bytes a b (length first) (length second)) ≡ Runs m
+          → AcceptedRuns bytes a b (length first) (length second) t × (m ≡ size t)
+      forth i =
+          let reading = runsReading bytes a b (length first) (length second) in
+          let (u, e, j) = outcome-reads answerOf (λ q k z. zero-one cc) reading i in
+          let count : m ≡ size u = cc in
+          let runs = runs-comes-out bytes a b (length first) (length second) .passes u .0 e in
+          let same : u ≡ t = sym (accepted-trace (runs .accepted .pair .numbers .accepted)) ∙ accepted-trace h in
+          (rw same at runs, rw same at count)
+
+      back : AcceptedRuns bytes a b (length first) (length second) t × (m ≡ size t)
+          → answerOf (runsReading bytes a b (length first) (length second)) ≡ Runs m
+      back p = rw (runs-comes-out bytes a b (length first) (length second) .passes t .1 (p .0), p .1)
+
+  -- in other words: the pair order is 0, and the buffers are long enough
+  pub runs-when : {t : Trace} → AcceptedTrace bytes t
+      → AcceptedRuns bytes a b (length first) (length second) t
+      ↔ ((orderAnswer bytes a b ≡ order.Ordered (pos 0)) × (size t ≤ length first) × (size t ≤ length second))
+  runs-when {t} h = (
+    λ r. (forth (r .accepted), r .first-holds, r .second-holds),
+    λ p. record { accepted = back (p .0); first-holds = p .1; second-holds = p .2 },
+  )
+    where
+      forth : AcceptedUnordered bytes a b t → orderAnswer bytes a b ≡ order.Ordered (pos 0)
+      forth u = answer-sign (u .pair) (pos 0) .1 (pair-order-zero (accepted-workers h) a b .1 (u .unordered))
+
+      back : orderAnswer bytes a b ≡ order.Ordered (pos 0) → AcceptedUnordered bytes a b t
+      back o =
+          let pair : AcceptedPair bytes a b t = rw (accepted-trace h) at (order-ordered bytes a b (pos 0) o .0) in
+          let zero = answer-sign pair (pos 0) .0 o in
+          record { pair = pair; unordered = pair-order-zero (accepted-workers h) a b .0 zero }

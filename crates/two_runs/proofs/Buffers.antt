@@ -1,0 +1,97 @@
+-- What is in the buffers after the call. In order: a buffer that a run is written to; after any call, the lengths;
+-- after success, both buffers.
+use mathlib.Core.List.{List}
+use mathlib.Core.Logic.{_≢_}
+use mathlib.Core.Path.{_≡_, refl, sym}
+use native.Mathlib.Omega.{arith}
+use Prim.Native.Nat.{ℕ, _<_, _≤_}
+use lib.ListN.{length, getD, take, drop}
+use lib.Seq.{take-at}
+use Rattle.runs.specs.Run.{StandsBefore}
+use Rattle.trace.specs.Reading.{Reading, refused, reads}
+use Rattle.trace.specs.Trace.{Trace, size}
+use Rattle.model.specs.Computed.{heldBackRun}
+use Rattle.model.specs.Moves.{HeldBackRun}
+use Rattle.model.specs.Orders.{MustPrecedeIn}
+use Rattle.model.specs.Runs.{CompleteRunOf}
+use Rattle.model.proofs.HeldBack.{held-back-run, held-back-complete, held-back-before}
+use Rattle.model.proofs.Largest.{complete-run-length}
+use Rattle.accept.specs.Acceptance.{AcceptedTrace}
+use Rattle.accept.proofs.Questions.{accepted-workers, accepted-run}
+use Rattle.lent.specs.Written.{writtenOver}
+use Rattle.lent.proofs.Writing.{written-length, written-past}
+use Rattle.two_runs.specs.Refusals.{AcceptedRuns}
+use Rattle.two_runs.specs.Runs.{runsReading, leftBy, firstAfter, secondAfter}
+use Rattle.two_runs.proofs.Answers.{call-by}
+use Rattle.two_runs.proofs.Questions.{runs-comes-out}
+
+-- ---- a buffer that a run is written to
+
+-- it held `lent`; its first n numbers are a complete run, by document 01's rule that which holds `late` back, and
+-- `early` stands before `late` in it; what lies behind them is as before
+pub record StartsWithRun (t : Trace) (early late : ℕ) (lent now : List ℕ) : Type 0 where
+  pub by-rule : HeldBackRun t late (take (size t) now)
+  pub complete : CompleteRunOf t (take (size t) now)
+  pub before : StandsBefore early late (take (size t) now)
+  pub past : (i : ℕ) → size t ≤ i → getD now i 0 ≡ getD lent i 0
+
+module _ {bytes : List ℕ} {t : Trace} (h : AcceptedTrace bytes t) (late : ℕ) where
+  run : CompleteRunOf t (heldBackRun t late)
+  run = held-back-complete (accepted-workers h) (accepted-run h) late
+
+  starts-with : {early : ℕ} → late < size t → early ≢ late → (MustPrecedeIn t late early → ⊥) → (lent : List ℕ)
+      → StartsWithRun t early late lent (writtenOver (heldBackRun t late) lent)
+  starts-with l d n lent =
+      record {
+        by-rule = rw front (held-back-run (accepted-workers h) late);
+        complete = rw front run;
+        before = rw front (held-back-before (accepted-workers h) (accepted-run h) l d n);
+        past = λ i j. written-past (heldBackRun t late) lent 0 i (omega (arith, complete-run-length t run));
+      }
+    where
+      front : take (size t) (writtenOver (heldBackRun t late) lent) ≡ heldBackRun t late
+      front =
+          let rest = drop (length (heldBackRun t late)) lent in
+          take-at (heldBackRun t late) rest (size t) (complete-run-length t run)
+
+  left-length : (lent : List ℕ) → size t ≤ length lent → length (leftBy late (reads t) lent) ≡ length lent
+  left-length lent l = written-length (heldBackRun t late) lent (omega (arith, complete-run-length t run))
+
+module _ (bytes : List ℕ) (a b : ℕ) (first second : List ℕ) where
+  -- ---- after any call
+
+  pub after-lengths : (length (firstAfter bytes a b first second) ≡ length first)
+      × (length (secondAfter bytes a b first second) ≡ length second)
+  after-lengths = go (runsReading bytes a b (length first) (length second)) refl
+    where
+      go : (r : Reading) → runsReading bytes a b (length first) (length second) ≡ r
+          → (length (firstAfter bytes a b first second) ≡ length first)
+          × (length (secondAfter bytes a b first second) ≡ length second)
+      go (refused q k) e =
+          let c = call-by bytes a b first second e in
+          (rw (← c .leaves-first), rw (← c .leaves-second))
+      go (reads t) e =
+          let c = call-by bytes a b first second e in
+          let runs = runs-comes-out bytes a b (length first) (length second) .passes t .0 e in
+          let h = runs .accepted .pair .numbers .accepted in (
+            rw (← c .leaves-first) (left-length h b first (runs .first-holds)),
+            rw (← c .leaves-second) (left-length h a second (runs .second-holds)),
+          )
+
+  -- ---- after success
+
+  module _ {t : Trace} (r : AcceptedRuns bytes a b (length first) (length second) t) where
+    pub after-first : StartsWithRun t a b first (firstAfter bytes a b first second)
+    after-first =
+        let c = call-by bytes a b first second (runs-comes-out bytes a b _ _ .passes t .1 r) in
+        let pair = r .accepted .pair in
+        let start = starts-with (pair .numbers .accepted) b (pair .numbers .second-below) (pair .differ) in
+        rw (← c .leaves-first) (start (r .accepted .unordered .not-after) first)
+
+    pub after-second : StartsWithRun t b a second (secondAfter bytes a b first second)
+    after-second =
+        let c = call-by bytes a b first second (runs-comes-out bytes a b _ _ .passes t .1 r) in
+        let pair = r .accepted .pair in
+        let other : b ≢ a = λ e. pair .differ (sym e) in
+        let start = starts-with (pair .numbers .accepted) a (pair .numbers .first-below) other in
+        rw (← c .leaves-second) (start (r .accepted .unordered .not-before) second)

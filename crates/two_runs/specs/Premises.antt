@@ -1,0 +1,33 @@
+-- What the inner functions know, and what they do.
+-- Follows: document 01, "Two runs".
+-- Differs: nowhere. Means: the call's contract speaks of none of these.
+use mathlib.Core.List.{List}
+use mathlib.Core.Path.{_≡_}
+use Prim.Native.Nat.{ℕ}
+use lib.ListN.{length}
+use Rattle.trace.specs.Reading.{traceOf}
+use Rattle.trace.specs.Trace.{Trace}
+use Rattle.model.specs.Computed.{heldBackRun}
+use Rattle.walk.specs.declared.Walk.{Walk}
+use Rattle.walk.specs.Walks.{Walkable, walkFrom, runFrom}
+use Rattle.accept.specs.Acceptance.{AcceptedTrace}
+use Rattle.lent.specs.Written.{writtenOver}
+use Rattle.two_runs.specs.declared.Reached.{Reached}
+
+-- the walk without a from `start`, of as many steps as the part `old` holds numbers: where it has got to, how many
+-- operations it added, and the part with them written to its front
+pub record WritesWalk (t : Trace) (a : ℕ) (start : Walk) (old : List ℕ) (reached : Reached) (now : List ℕ)
+    : Type 0 where
+  pub end : reached .walk ≡ walkFrom t a start (length old)
+  pub counts : reached .count ≡ length (runFrom t a start (length old))
+  pub writes : now ≡ writtenOver (runFrom t a start (length old)) old
+
+-- an accepted file, with its index
+pub record Runnable (bytes : List ℕ) (p n : ℕ) (order starts : List ℕ) : Type 0 where
+  pub accepted : AcceptedTrace bytes (traceOf bytes)
+  pub walkable : Walkable bytes p n order starts
+
+-- the first buffer gets the run that holds b back, the second the one that holds a back
+pub record BothWritten (t : Trace) (a b : ℕ) (first first-now second second-now : List ℕ) : Type 0 where
+  pub first-written : first-now ≡ writtenOver (heldBackRun t b) first
+  pub second-written : second-now ≡ writtenOver (heldBackRun t a) second
