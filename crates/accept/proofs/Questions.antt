@@ -2,10 +2,9 @@
 -- which refusals there are. What the answer says is in Answers.
 use mathlib.Core.List.{List}
 use mathlib.Core.Logic.{inl, inr, _↔_}
-use mathlib.Core.Path.{_≡_, sym, _∙_}
+use mathlib.Core.Path.{_≡_, refl, sym, _∙_}
 use native.Mathlib.Omega.{arith}
 use Prim.Native.Nat.{ℕ, _<_, _≤_}
-use borrow.Author.Tests.{le-leb, lt-leb}
 use Rattle.runs.proofs.Booleans.{less?}
 use Rattle.trace.specs.Premises.{HoldsTrace}
 use Rattle.trace.specs.Reading.{refused, reads, fileReading, traceOf}
@@ -64,12 +63,10 @@ module _ (bytes : List ℕ) (t : Trace) (e : fileReading bytes ≡ reads t) wher
 
   -- what question 10 makes of it: some operation is outside the largest run, or none is
   some-outside : firstOutside t < size t → acceptance bytes ≡ refused 10 (firstOutside t)
-  unfolding acceptance
-  some-outside l = rw e (simp (lt-leb (size t) (firstOutside t) l))
+  some-outside l = asked bytes .refuses 10 (firstOutside t) .1 (by-this t e l refl refl)
 
   none-left : size t ≤ firstOutside t → AcceptedTrace bytes t
-  unfolding acceptance
-  none-left l = record { passes = rw e (simp (le-leb (size t) (firstOutside t) l)) }
+  none-left l = record { passes = asked bytes .passes t .1 (e, l) }
 
   -- such a file is refused 10 with place k exactly if k is the lowest operation outside the largest run
   pub refused-place : (k : ℕ) → (acceptance bytes ≡ refused 10 k) ↔ LowestOutside t k

@@ -8,6 +8,7 @@ use mathlib.Core.Path.{_≡_, refl, sym}
 use native.Mathlib.Omega.{arith}
 use Prim.Native.Nat.{ℕ, _<_, _≤_}
 use lib.IntN.{pos}
+use lib.ListN.{length}
 use lib.Dec.{T, eqb, eqb→eq, eqb-refl, T-not, not-T}
 use Rattle.runs.specs.Rule.{Rule, without}
 use Rattle.runs.specs.Run.{StandsBefore}
@@ -23,6 +24,7 @@ use Rattle.model.specs.Moves as words
 use Rattle.model.specs.Orders.{MustPrecedeIn, Unordered, SometimesBefore}
 use Rattle.model.specs.Rule.{rule, WorkersKnown}
 use Rattle.model.specs.Runs.{CompleteRunOf}
+use Rattle.model.proofs.Largest.{complete-run-length}
 use Rattle.model.proofs.RuleLaws.{rule-monotone, rule-in-turn, order-ascending, order-preference}
 use Rattle.model.proofs.SharedOrder.{must-precede-means, pair-order-zero, pair-order-otherwise}
 use Rattle.model.proofs.TraceRuns.{may-means, complete-means}
@@ -134,6 +136,9 @@ module _ {t : Trace} (w : WorkersKnown t) where
     held-back-complete b =
         complete-means t .0
         (holding-back-complete (rule-monotone t) (order-preference w) (complete-means t .1 complete) b)
+
+    pub held-back-length : (b : ℕ) → length (heldBackRun t b) ≡ size t
+    held-back-length b = complete-run-length t (held-back-complete b)
 
     -- a stands before b in it, unless b is certain before a
     pub held-back-before : {a b : ℕ} → b < size t → a ≢ b → (MustPrecedeIn t b a → ⊥)

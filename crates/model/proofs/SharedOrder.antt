@@ -60,44 +60,37 @@ sign forward backward = cond forward (negsuc 0) (cond backward (pos 1) (pos 0))
 -- the three signs differ
 record Differ : Type 0 where
   before-after : negsuc 0 ≡ pos 1 → ⊥
-  before-free : negsuc 0 ≡ pos 0 → ⊥
-  after-free : pos 1 ≡ pos 0 → ⊥
+  before-zero : negsuc 0 ≡ pos 0 → ⊥
+  after-zero : pos 1 ≡ pos 0 → ⊥
 
 signs : Differ
 signs =
     record {
       before-after = λ e. zero-one cc;
-      before-free = λ e. zero-one cc;
-      after-free = λ e. zero-one cc;
+      before-zero = λ e. zero-one cc;
+      after-zero = λ e. zero-one cc;
     }
 
 sign-before : (x y : Bool) → (sign x y ≡ negsuc 0) ↔ T x
 sign-before true y = (λ e. tt, λ h. refl)
 sign-before false true = (λ e. signs .before-after (sym e), λ h. absurd h)
-sign-before false false = (λ e. signs .before-free (sym e), λ h. absurd h)
+sign-before false false = (λ e. signs .before-zero (sym e), λ h. absurd h)
 
 -- where not both tests pass
-module _ (x y : Bool) (n : T x → T y → ⊥) where
-  sign-after : (sign x y ≡ pos 1) ↔ T y
-  sign-after = go x y n
-    where
-      go : (x y : Bool) → (T x → T y → ⊥) → (sign x y ≡ pos 1) ↔ T y
-      go true y n = (λ e. absurd (signs .before-after e), λ h. absurd (n tt h))
-      go false true n = (λ e. tt, λ h. refl)
-      go false false n = (λ e. signs .after-free (sym e), λ h. absurd h)
+sign-after : (x y : Bool) → (T x → T y → ⊥) → (sign x y ≡ pos 1) ↔ T y
+sign-after true y n = (λ e. absurd (signs .before-after e), λ h. absurd (n tt h))
+sign-after false true n = (λ e. tt, λ h. refl)
+sign-after false false n = (λ e. signs .after-zero (sym e), λ h. absurd h)
 
-  sign-swap : sign y x ≡ negℤ (sign x y)
-  sign-swap = go x y n
-    where
-      go : (x y : Bool) → (T x → T y → ⊥) → sign y x ≡ negℤ (sign x y)
-      go true true n = absurd (n tt tt)
-      go true false n = refl
-      go false true n = refl
-      go false false n = refl
+sign-swap : (x y : Bool) → (T x → T y → ⊥) → sign y x ≡ negℤ (sign x y)
+sign-swap true true n = absurd (n tt tt)
+sign-swap true false n = refl
+sign-swap false true n = refl
+sign-swap false false n = refl
 
 sign-zero : (x y : Bool) → (sign x y ≡ pos 0) ↔ (not x && not y ≡ true)
-sign-zero true y = (λ e. absurd (signs .before-free e), λ e. absurd (test-true false .0 e))
-sign-zero false true = (λ e. absurd (signs .after-free e), λ e. absurd (test-true false .0 e))
+sign-zero true y = (λ e. absurd (signs .before-zero e), λ e. absurd (test-true false .0 e))
+sign-zero false true = (λ e. absurd (signs .after-zero e), λ e. absurd (test-true false .0 e))
 sign-zero false false = (λ e. refl, λ e. refl)
 
 sign-one-of : (x y : Bool) → (sign x y ≡ negsuc 0) ⊎ (sign x y ≡ pos 1) ⊎ (sign x y ≡ pos 0)
@@ -156,11 +149,17 @@ module _ {t : Trace} (w : WorkersKnown t) {c : List ℕ} (complete : CompleteRun
   one-way p q = must-precede-one-way t complete i j (must-precede-in-test w a b .0 p) (must-precede-in-test w b a .0 q)
 
   module _ (d : a ≢ b) where
+    certain : MustPrecedeIn t a b ↔ AlwaysBefore t a b
+    certain = must-precede-always t complete i j d
+
+    certain-back : MustPrecedeIn t b a ↔ AlwaysBefore t b a
+    certain-back = must-precede-always t complete j i (λ e. d (sym e))
+
     forward : T (mustPrecedeIn t a b) ↔ AlwaysBefore t a b
-    forward = Iff·trans (must-precede-in-test w a b) (must-precede-always t complete i j d)
+    forward = Iff·trans (must-precede-in-test w a b) certain
 
     backward : T (mustPrecedeIn t b a) ↔ AlwaysBefore t b a
-    backward = Iff·trans (must-precede-in-test w b a) (must-precede-always t complete j i (λ e. d (sym e)))
+    backward = Iff·trans (must-precede-in-test w b a) certain-back
 
     -- −1 exactly when a stands before b in every complete run
     pub pair-order-before : (pairOrder t a b ≡ negsuc 0) ↔ AlwaysBefore t a b
@@ -175,11 +174,9 @@ module _ {t : Trace} (w : WorkersKnown t) {c : List ℕ} (complete : CompleteRun
     -- otherwise 0
     pub pair-order-otherwise : (pairOrder t a b ≡ pos 0) ↔ ((AlwaysBefore t a b → ⊥) × (AlwaysBefore t b a → ⊥))
     pair-order-otherwise =
-        let forth = must-precede-always t complete i j d in
-        let back = must-precede-always t complete j i (λ e. d (sym e)) in
         Iff·trans (pair-order-zero w a b) (
-          λ u. (λ f. u .not-before (forth .1 f), λ f. u .not-after (back .1 f)),
-          λ p. record { not-before = λ m. p .0 (forth .0 m); not-after = λ m. p .1 (back .0 m) },
+          λ u. (λ f. u .not-before (certain .1 f), λ f. u .not-after (certain-back .1 f)),
+          λ p. record { not-before = λ m. p .0 (certain .0 m); not-after = λ m. p .1 (certain-back .0 m) },
         )
 
   -- "swapping the two negates it"

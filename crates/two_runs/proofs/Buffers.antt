@@ -14,8 +14,7 @@ use Rattle.model.specs.Computed.{heldBackRun}
 use Rattle.model.specs.Moves.{HeldBackRun}
 use Rattle.model.specs.Orders.{MustPrecedeIn}
 use Rattle.model.specs.Runs.{CompleteRunOf}
-use Rattle.model.proofs.HeldBack.{held-back-run, held-back-complete, held-back-before}
-use Rattle.model.proofs.Largest.{complete-run-length}
+use Rattle.model.proofs.HeldBack.{held-back-run, held-back-complete, held-back-length, held-back-before}
 use Rattle.accept.specs.Acceptance.{AcceptedTrace}
 use Rattle.accept.proofs.Questions.{accepted-workers, accepted-run}
 use Rattle.lent.specs.Written.{writtenOver}
@@ -36,26 +35,26 @@ pub record StartsWithRun (t : Trace) (early late : ℕ) (lent now : List ℕ) : 
   pub past : (i : ℕ) → size t ≤ i → getD now i 0 ≡ getD lent i 0
 
 module _ {bytes : List ℕ} {t : Trace} (h : AcceptedTrace bytes t) (late : ℕ) where
-  run : CompleteRunOf t (heldBackRun t late)
-  run = held-back-complete (accepted-workers h) (accepted-run h) late
+  long : length (heldBackRun t late) ≡ size t
+  long = held-back-length (accepted-workers h) (accepted-run h) late
 
   starts-with : {early : ℕ} → late < size t → early ≢ late → (MustPrecedeIn t late early → ⊥) → (lent : List ℕ)
       → StartsWithRun t early late lent (writtenOver (heldBackRun t late) lent)
   starts-with l d n lent =
       record {
         by-rule = rw front (held-back-run (accepted-workers h) late);
-        complete = rw front run;
+        complete = rw front (held-back-complete (accepted-workers h) (accepted-run h) late);
         before = rw front (held-back-before (accepted-workers h) (accepted-run h) l d n);
-        past = λ i j. written-past (heldBackRun t late) lent 0 i (omega (arith, complete-run-length t run));
+        past = λ i j. written-past (heldBackRun t late) lent 0 i (omega (arith, long));
       }
     where
       front : take (size t) (writtenOver (heldBackRun t late) lent) ≡ heldBackRun t late
       front =
           let rest = drop (length (heldBackRun t late)) lent in
-          take-at (heldBackRun t late) rest (size t) (complete-run-length t run)
+          take-at (heldBackRun t late) rest (size t) long
 
   left-length : (lent : List ℕ) → size t ≤ length lent → length (leftBy late (reads t) lent) ≡ length lent
-  left-length lent l = written-length (heldBackRun t late) lent (omega (arith, complete-run-length t run))
+  left-length lent l = written-length (heldBackRun t late) lent (omega (arith, long))
 
 module _ (bytes : List ℕ) (a b : ℕ) (first second : List ℕ) where
   -- ---- after any call

@@ -11,8 +11,7 @@ use Rattle.trace.specs.Premises.{HoldsTrace}
 use Rattle.trace.specs.Reading.{traceOf}
 use Rattle.trace.specs.Trace.{Trace, size}
 use Rattle.model.specs.Computed.{heldBackRun}
-use Rattle.model.proofs.HeldBack.{held-back-complete}
-use Rattle.model.proofs.Largest.{complete-run-length}
+use Rattle.model.proofs.HeldBack.{held-back-length}
 use Rattle.walk.specs.Walks.{startWalk, move, added, walkFrom, runFrom}
 use Rattle.walk.specs.declared.Walk.{Walk}
 use Rattle.walk.proofs.EventBits.{trace-fits}
@@ -88,9 +87,7 @@ module _ {bytes : List ℕ} {p n : ℕ} (h : HoldsTrace bytes p n) {a : ℕ} {st
 
 module _ {bytes : List ℕ} {p n : ℕ} (accepted : AcceptedTrace bytes (traceOf bytes)) (h : HoldsTrace bytes p n) where
   run-length : (b : ℕ) → length (heldBackRun (traceOf bytes) b) ≡ n
-  run-length b =
-      let complete = held-back-complete (accepted-workers accepted) (accepted-run accepted) b in
-      complete-run-length (traceOf bytes) complete ∙ h .count
+  run-length b = held-back-length (accepted-workers accepted) (accepted-run accepted) b ∙ h .count
 
 -- ---- a run: the walk without b goes from `old` to `mid`
 
