@@ -1,12 +1,14 @@
--- The customer's demand 1, sentence by sentence, as theorems about what the calls answer and leave in lent memory: the
--- definitions that their contracts cite, at any file bytes and lent memory. A sentence is stated of the calls that
--- there are.
+-- The customer's demand 1, sentence by sentence, as theorems about what the calls answer and leave in lent memory, at
+-- any file bytes and lent memory: by the definitions that their contracts equal, or, of the calls that write, by their
+-- promises (`TableCall`, `RunsCall`, `ListCall`, `RacesCall`). A sentence is stated of the calls that there are.
 use mathlib.Core.List.{List}
-use mathlib.Core.Logic.{_⊎_, _↔_}
-use mathlib.Core.Path.{_≡_, sym}
+use mathlib.Core.Logic.{_⊎_, _↔_, _≢_}
+use mathlib.Core.Path.{_≡_, refl, sym, _∙_}
+use native.Mathlib.Omega.{arith}
 use Prim.Native.Nat.{ℕ, _≤_}
 use lib.ListN.{length}
-use Rattle.trace.specs.Reading.{reads, fileReading}
+use Rattle.trace.specs.Reading.{refused, reads, fileReading}
+use Rattle.trace.specs.Refusals.{by-earlier, by-this}
 use Rattle.trace.specs.Trace.{Trace, size}
 use Rattle.accept.specs.Acceptance.{AcceptedTrace, acceptAnswer}
 use Rattle.accept.specs.Acceptance as accept
@@ -14,12 +16,13 @@ use Rattle.accept.specs.declared.AcceptAnswer.{AcceptAnswer}
 use Rattle.accept.specs.declared.AcceptAnswer.the-variants.{Accepted, Refused}
 use Rattle.accept.proofs.Answers.{answer-means, accepted-answer}
 use Rattle.accept.proofs.Questions.{refused-file, refused-number, comes-out}
-use Rattle.order_table.specs.Table.{tableAnswer, tableAfter}
+use Rattle.lent.specs.Written.{writtenOver}
+use Rattle.order_table.specs.Table.{orderTable, tableReading, tableAnswer, TableCall}
 use Rattle.order_table.specs.Table as order-table
 use Rattle.order_table.specs.declared.TableAnswer.{TableAnswer}
 use Rattle.order_table.specs.declared.TableAnswer.the-variants as table
 use Rattle.order_table.proofs.Answers.{call-by, call-refused, table-refused}
-use Rattle.order_table.proofs.Entries.{after-length}
+use Rattle.order_table.proofs.Entries.{after-length, after-filled}
 use Rattle.order_table.proofs.Questions.{table-comes-out, refused-table-number}
 use Rattle.pair_order.specs.Order.{orderAnswer}
 use Rattle.pair_order.specs.Order as pair-order
@@ -27,7 +30,7 @@ use Rattle.pair_order.specs.declared.OrderAnswer.{OrderAnswer}
 use Rattle.pair_order.specs.declared.OrderAnswer.the-variants as order
 use Rattle.pair_order.proofs.Answers.{answer-unaccepted, order-refused}
 use Rattle.pair_order.proofs.Questions.{pair-comes-out, refused-pair-number}
-use Rattle.two_runs.specs.Runs.{runsAnswer, firstAfter, secondAfter}
+use Rattle.two_runs.specs.Runs.{runsReading, runsAnswer, RunsCall}
 use Rattle.two_runs.specs.Runs as two-runs
 use Rattle.two_runs.specs.declared.RunsAnswer.{RunsAnswer}
 use Rattle.two_runs.specs.declared.RunsAnswer.the-variants as runs
@@ -38,7 +41,18 @@ use Rattle.two_runs.proofs.Questions.{runs-comes-out, refused-runs-number}
 use Rattle.beginning.specs.Computed.{beginningOf, numbersOf, startOf, BeginningCall}
 use Rattle.beginning.specs.Returned.{Part, Returned}
 use Rattle.beginning.proofs.Beginnings.{beginning-returned, call-returned}
-use Rattle.demands.specs.Outcomes.{AcceptOutcome, TableOutcome, OrderOutcome, RunsOutcome}
+use Rattle.race_search.specs.declared.Race.{Race}
+use Rattle.races.specs.declared.RacesAnswer.{RacesAnswer}
+use Rattle.races.specs.declared.RacesAnswer.the-variants as races
+use Rattle.races.specs.Races.{racesAnswer, shorter, PlanCall, RacesCall}
+use Rattle.races.specs.Races as race-answers
+use Rattle.races.specs.Refusals.{RefusedRaces}
+use Rattle.races.proofs.Answers.{plan-refused, races-refused, races-listed}
+use Rattle.races.proofs.Listed.{lists-length, lists-untouched}
+use Rattle.races.proofs.Questions.{races-comes-out, refused-races-number}
+use Rattle.race_list.specs.Listing.{ListCall}
+use Rattle.race_list.proofs.Lists.{list-length, list-untouched}
+use Rattle.demands.specs.Outcomes.{AcceptOutcome, TableOutcome, OrderOutcome, RunsOutcome, RacesOutcome}
 use Rattle.demands.proofs.Outcomes.{outcome-exactly}
 
 -- "Every entry takes all bytes and numbers, finishes, and either gives its result or a refusal number from document
@@ -58,32 +72,33 @@ pub accepted-means : (bytes : List ℕ) (t : Trace)
     → AcceptedTrace bytes t ↔ ((fileReading bytes ≡ reads t) × (acceptAnswer bytes ≡ Accepted (t .workers) (size t)))
 accepted-means bytes t = accepted-answer bytes t
 
--- The order table answers the counts of the accepted trace where the lent table holds at least n × p numbers, or the
--- refusal by the first "no", and nothing else:
-pub table-answers : (bytes lent : List ℕ) (x : TableAnswer)
-    → (tableAnswer bytes lent ≡ x) ↔ TableOutcome bytes (length lent) x
-unfolding tableAnswer
-table-answers bytes lent x = outcome-exactly order-table.answerOf (table-comes-out bytes (length lent)) x
+-- For any call that keeps the order table's promise (`TableCall`), with any bytes and any table:
+module _ {bytes lent now : List ℕ} {answer : TableAnswer} (c : TableCall bytes lent answer now) where
+  -- It answers the counts of the accepted trace where the lent table holds at least n × p numbers, or the refusal by
+  -- the first "no", and nothing else:
+  pub table-answers : (x : TableAnswer) → (answer ≡ x) ↔ TableOutcome bytes (length lent) x
+  unfolding tableAnswer
+  table-answers x = rw (c .answers) (outcome-exactly order-table.answerOf (table-comes-out bytes (length lent)) x)
 
--- Its refusal numbers are questions 1 to 11:
-pub table-numbers : (bytes lent : List ℕ) (q k : ℕ) → tableAnswer bytes lent ≡ table.Refused q k → (1 ≤ q) × (q ≤ 11)
-table-numbers bytes lent q k a =
-    refused-table-number (table-comes-out bytes (length lent) .refuses q k .0 (table-refused bytes lent q k .0 a))
+  table-refusal : (q k : ℕ) → answer ≡ table.Refused q k → tableReading bytes (length lent) ≡ refused q k
+  table-refusal q k a = table-refused bytes lent q k .0 (sym (c .answers) ∙ a)
 
--- document 01: "Every call that takes a file asks 1 to 10 of it itself." What reading the file refuses, it refuses
--- alike, whatever table it is lent:
-pub table-refuses-file : (bytes lent : List ℕ) (q k : ℕ) → acceptAnswer bytes ≡ Refused q k
-    → tableAnswer bytes lent ≡ table.Refused q k
-table-refuses-file bytes lent q k a = sym (call-refused bytes lent a .answers)
+  -- Its refusal numbers are questions 1 to 11:
+  pub table-numbers : (q k : ℕ) → answer ≡ table.Refused q k → (1 ≤ q) × (q ≤ 11)
+  table-numbers q k a = refused-table-number (table-comes-out bytes (length lent) .refuses q k .0 (table-refusal q k a))
 
--- "A refusal leaves lent memory untouched, but for [...]": the one table that is excepted is not this call's.
-pub table-untouched : (bytes lent : List ℕ) (q k : ℕ) → tableAnswer bytes lent ≡ table.Refused q k
-    → tableAfter bytes lent ≡ lent
-table-untouched bytes lent q k a = sym (call-by bytes lent (table-refused bytes lent q k .0 a) .leaves)
+  -- document 01: "Every call that takes a file asks 1 to 10 of it itself." What reading the file refuses, it refuses
+  -- alike, whatever table it is lent:
+  pub table-refuses-file : (q k : ℕ) → acceptAnswer bytes ≡ Refused q k → answer ≡ table.Refused q k
+  table-refuses-file q k a = c .answers ∙ sym (call-refused bytes lent a .answers)
 
--- Whatever is answered, the table is as long as it was:
-pub table-length : (bytes lent : List ℕ) → length (tableAfter bytes lent) ≡ length lent
-table-length bytes lent = after-length bytes lent
+  -- "A refusal leaves lent memory untouched, but for [...]": the one table that is excepted is not this call's.
+  pub table-untouched : (q k : ℕ) → answer ≡ table.Refused q k → now ≡ lent
+  table-untouched q k a = c .leaves ∙ sym (call-by bytes lent (table-refusal q k a) .leaves)
+
+  -- Whatever is answered, the table is as long as it was:
+  pub table-length : length now ≡ length lent
+  table-length = rw (c .leaves) (after-length bytes lent)
 
 -- The pair order answers the order of two different operations of the accepted trace, or the refusal by the first "no",
 -- and nothing else:
@@ -103,43 +118,135 @@ pub order-refuses-file : (bytes : List ℕ) (a b q k : ℕ) → acceptAnswer byt
     → orderAnswer bytes a b ≡ order.Refused q k
 order-refuses-file bytes a b q k i = sym (answer-unaccepted bytes a b i)
 
--- For any bytes, any two numbers and any two buffers:
-module _ (bytes : List ℕ) (a b : ℕ) (first second : List ℕ) where
-  -- The two runs answer the operation count where neither operation must precede the other and each buffer holds at
-  -- least n numbers, or the refusal by the first "no", and nothing else:
-  pub runs-answers : (x : RunsAnswer)
-      → (runsAnswer bytes a b first second ≡ x) ↔ RunsOutcome bytes a b (length first) (length second) x
+-- For any call that keeps the two runs' promise (`RunsCall`), with any bytes, any two numbers and any two buffers:
+module _ {bytes first second first-now second-now : List ℕ} {a b : ℕ} {answer : RunsAnswer}
+    (c : RunsCall bytes a b first second answer first-now second-now) where
+  -- It answers the operation count where neither operation must precede the other and each buffer holds at least n
+  -- numbers, or the refusal by the first "no", and nothing else:
+  pub runs-answers : (x : RunsAnswer) → (answer ≡ x) ↔ RunsOutcome bytes a b (length first) (length second) x
   unfolding runsAnswer
-  runs-answers x = outcome-exactly two-runs.answerOf (runs-comes-out bytes a b (length first) (length second)) x
+  runs-answers x =
+      let out = runs-comes-out bytes a b (length first) (length second) in
+      rw (c .answers) (outcome-exactly two-runs.answerOf out x)
 
-  -- Their refusal numbers are questions 1 to 10 and 12 to 15:
-  pub runs-numbers : (q k : ℕ) → runsAnswer bytes a b first second ≡ runs.Refused q k
-      → ((1 ≤ q) × (q ≤ 10)) ⊎ ((12 ≤ q) × (q ≤ 15))
+  runs-refusal : (q k : ℕ) → answer ≡ runs.Refused q k
+      → runsReading bytes a b (length first) (length second) ≡ refused q k
+  runs-refusal q k i = runs-refused bytes a b first second q k .0 (sym (c .answers) ∙ i)
+
+  -- Its refusal numbers are questions 1 to 10 and 12 to 15:
+  pub runs-numbers : (q k : ℕ) → answer ≡ runs.Refused q k → ((1 ≤ q) × (q ≤ 10)) ⊎ ((12 ≤ q) × (q ≤ 15))
   runs-numbers q k i =
-      let no = runs-refused bytes a b first second q k .0 i in
-      refused-runs-number (runs-comes-out bytes a b (length first) (length second) .refuses q k .0 no)
+      let out = runs-comes-out bytes a b (length first) (length second) in
+      refused-runs-number (out .refuses q k .0 (runs-refusal q k i))
 
-  -- What reading the file refuses, they refuse alike, whatever the numbers and buffers:
-  pub runs-refuse-file : (q k : ℕ) → acceptAnswer bytes ≡ Refused q k
-      → runsAnswer bytes a b first second ≡ runs.Refused q k
-  runs-refuse-file q k i = sym (two-runs-answers.call-refused bytes a b first second i .answers)
+  -- What reading the file refuses, it refuses alike, whatever the numbers and buffers:
+  pub runs-refuse-file : (q k : ℕ) → acceptAnswer bytes ≡ Refused q k → answer ≡ runs.Refused q k
+  runs-refuse-file q k i = c .answers ∙ sym (two-runs-answers.call-refused bytes a b first second i .answers)
 
-  -- What the pair order refuses, they refuse alike:
-  pub runs-refuse-pair : (q k : ℕ) → orderAnswer bytes a b ≡ order.Refused q k
-      → runsAnswer bytes a b first second ≡ runs.Refused q k
-  runs-refuse-pair q k i = sym (call-unpaired bytes a b first second i .answers)
+  -- What the pair order refuses, it refuses alike:
+  pub runs-refuse-pair : (q k : ℕ) → orderAnswer bytes a b ≡ order.Refused q k → answer ≡ runs.Refused q k
+  runs-refuse-pair q k i = c .answers ∙ sym (call-unpaired bytes a b first second i .answers)
 
   -- "A refusal leaves lent memory untouched":
-  pub runs-untouched : (q k : ℕ) → runsAnswer bytes a b first second ≡ runs.Refused q k
-      → (firstAfter bytes a b first second ≡ first) × (secondAfter bytes a b first second ≡ second)
+  pub runs-untouched : (q k : ℕ) → answer ≡ runs.Refused q k → (first-now ≡ first) × (second-now ≡ second)
   runs-untouched q k i =
-      let c = two-runs-answers.call-by bytes a b first second (runs-refused bytes a b first second q k .0 i) in
-      (sym (c .leaves-first), sym (c .leaves-second))
+      let r = two-runs-answers.call-by bytes a b first second (runs-refusal q k i) in
+      (c .leaves-first ∙ sym (r .leaves-first), c .leaves-second ∙ sym (r .leaves-second))
 
   -- Whatever is answered, each buffer is as long as it was:
-  pub runs-lengths : (length (firstAfter bytes a b first second) ≡ length first)
-      × (length (secondAfter bytes a b first second) ≡ length second)
-  runs-lengths = after-lengths bytes a b first second
+  pub runs-lengths : (length first-now ≡ length first) × (length second-now ≡ length second)
+  runs-lengths = rw (c .leaves-first, c .leaves-second) (after-lengths bytes a b first second)
+
+-- The race list is written to a list of records (`ListCall`) or to two lists of numbers (`RacesCall`), which are one of
+-- as many records as the shorter holds numbers. Both calls answer alike, and leave the same in the table (`PlanCall`):
+pub race-list-plans : {bytes lent table-now : List ℕ} {list list-now : List Race} {answer : RacesAnswer}
+    → ListCall bytes lent list answer table-now list-now → PlanCall bytes lent (length list) answer table-now
+race-list-plans c = record { answers = c .answers; leaves-table = c .leaves-table }
+
+pub races-plans : {bytes lent lower higher table-now lower-now higher-now : List ℕ} {answer : RacesAnswer}
+    → RacesCall bytes lent lower higher answer table-now lower-now higher-now
+    → PlanCall bytes lent (shorter (length lower) (length higher)) answer table-now
+races-plans c = record { answers = c .answers; leaves-table = c .leaves-table }
+
+-- So, for any such call, with any bytes, any table and a list of any number of records:
+module _ {bytes lent table-now : List ℕ} {room : ℕ} {answer : RacesAnswer}
+    (c : PlanCall bytes lent room answer table-now) where
+  -- It answers the counts of the accepted trace and the number of its races, where the table holds at least n × p
+  -- numbers and the list as many records as there are races, or the refusal by the first "no", and nothing else:
+  pub races-answers : (x : RacesAnswer) → (answer ≡ x) ↔ RacesOutcome bytes (length lent) room x
+  unfolding racesAnswer
+  races-answers x = rw (c .answers) (outcome-exactly race-answers.answerOf (races-comes-out bytes (length lent) room) x)
+
+  refused-by : (q k : ℕ) → answer ≡ races.Refused q k → RefusedRaces bytes (length lent) room q k
+  refused-by q k i =
+      let no = races-refused bytes (length lent) room q k .0 (sym (c .answers) ∙ i) in
+      races-comes-out bytes (length lent) room .refuses q k .0 no
+
+  -- Its refusal numbers are questions 1 to 11 and 16:
+  pub races-numbers : (q k : ℕ) → answer ≡ races.Refused q k → ((1 ≤ q) × (q ≤ 11)) ⊎ (q ≡ 16)
+  races-numbers q k i = refused-races-number (refused-by q k i)
+
+  -- What the order table refuses, it refuses alike, whatever list it is lent:
+  pub races-refuse-table : (q k : ℕ) → tableAnswer bytes lent ≡ table.Refused q k → answer ≡ races.Refused q k
+  races-refuse-table q k i = c .answers ∙ sym (plan-refused bytes lent room refl i .answers)
+
+  -- It leaves the table as a call of the order table does, so that what is said of that holds here too:
+  pub races-fill-table : TableCall bytes lent (tableAnswer bytes lent) table-now
+  races-fill-table = record { answers = refl; leaves = c .leaves-table }
+
+  -- What reading the file refuses, it refuses alike:
+  pub races-refuse-file : (q k : ℕ) → acceptAnswer bytes ≡ Refused q k → answer ≡ races.Refused q k
+  races-refuse-file q k i = races-refuse-table q k (table-refuses-file races-fill-table q k i)
+
+  -- "A refusal leaves lent memory untouched, but for the one table that document 01 names": the table is as before
+  -- after a refusal by another number than 16.
+  pub races-table-untouched : (q k : ℕ) → q ≢ 16 → answer ≡ races.Refused q k → table-now ≡ lent
+  races-table-untouched q k d i = go (refused-by q k i)
+    where
+      go : RefusedRaces bytes (length lent) room q k → table-now ≡ lent
+      go (by-earlier r) =
+          let no = table-comes-out bytes (length lent) .refuses q k .1 r in
+          c .leaves-table ∙ sym (call-by bytes lent no .leaves)
+      go (by-this t h l n z) = absurd (d n)
+
+  -- document 01: "16 leaves the table filled":
+  pub races-table-filled : (k : ℕ) → answer ≡ races.Refused 16 k
+      → (t : Trace) × AcceptedTrace bytes t × (table-now ≡ writtenOver (orderTable t) lent)
+  races-table-filled k i = go (refused-by 16 k i)
+    where
+      go : RefusedRaces bytes (length lent) room 16 k
+          → (t : Trace) × AcceptedTrace bytes t × (table-now ≡ writtenOver (orderTable t) lent)
+      go (by-earlier r) = absurd (omega (arith, refused-table-number r .1))
+      go (by-this t h l n z) = (t, h .accepted, c .leaves-table ∙ after-filled lent h)
+
+  -- It is filled after success too:
+  pub races-success-fills : {t : Trace} → AcceptedTrace bytes t → (m : ℕ)
+      → answer ≡ races.Listed (t .workers) (size t) m → table-now ≡ writtenOver (orderTable t) lent
+  races-success-fills h m i =
+      let (passed, m-is) = races-listed bytes (length lent) room h m .0 (sym (c .answers) ∙ i) in
+      c .leaves-table ∙ after-filled lent (passed .filled)
+
+-- "A refusal leaves lent memory untouched": the list, of records or as two lists of numbers, by any number; and
+-- whatever is answered, it is as long as it was.
+module _ {bytes lent table-now : List ℕ} {list list-now : List Race} {answer : RacesAnswer}
+    (c : ListCall bytes lent list answer table-now list-now) where
+  pub race-list-untouched : (q k : ℕ) → answer ≡ races.Refused q k → list-now ≡ list
+  race-list-untouched q k i =
+      let no = races-refused bytes (length lent) (length list) q k .0 (sym (c .answers) ∙ i) in
+      c .leaves-list ∙ list-untouched bytes lent list no
+
+  pub race-list-length : length list-now ≡ length list
+  race-list-length = rw (c .leaves-list) (list-length bytes lent list)
+
+module _ {bytes lent lower higher table-now lower-now higher-now : List ℕ} {answer : RacesAnswer}
+    (c : RacesCall bytes lent lower higher answer table-now lower-now higher-now) where
+  pub races-untouched : (q k : ℕ) → answer ≡ races.Refused q k → (lower-now ≡ lower) × (higher-now ≡ higher)
+  races-untouched q k i =
+      let no = races-refused bytes (length lent) _ q k .0 (sym (c .answers) ∙ i) in
+      rw (c .leaves-lower, c .leaves-higher) (lists-untouched bytes lent lower higher no)
+
+  pub races-lengths : (length lower-now ≡ length lower) × (length higher-now ≡ length higher)
+  races-lengths = rw (c .leaves-lower, c .leaves-higher) (lists-length bytes lent lower higher)
 
 -- The beginning of a run refuses nothing: for any two lists and any two numbers it returns the part that document 01
 -- says, and only that; its numbers, at the start of the list that it is a part of:

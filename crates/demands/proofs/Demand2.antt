@@ -1,13 +1,13 @@
--- The customer's demand 2, sentence by sentence, as theorems about what the calls answer and leave in lent memory: the
--- definitions that their contracts cite, at any file bytes and lent memory. A sentence is stated of the calls that
--- there are.
+-- The customer's demand 2, sentence by sentence, as theorems about what the calls answer and leave in lent memory, at
+-- any file bytes and lent memory: by the definitions that their contracts equal, or, of the calls that write, by their
+-- promises (`TableCall`, `ListCall`, `RacesCall`). A sentence is stated of the calls that there are.
 use mathlib.Core.List.{List}
 use mathlib.Core.Logic.{_↔_, _≢_, Iff·trans}
-use mathlib.Core.Path.{_≡_}
+use mathlib.Core.Path.{_≡_, sym, ap, _∙_}
 use native.Mathlib.Nat.{le-refl}
 use native.Mathlib.Omega.{arith}
 use Prim.Native.Nat.{ℕ, _+_, _*_, _<_, _≤_}
-use lib.ListN.{length, getD}
+use lib.ListN.{length, getD, take}
 use Rattle.runs.specs.Membership.{_∈_, _∉_}
 use Rattle.runs.specs.Workers.{count}
 use Rattle.trace.specs.Reading.{reads, fileReading}
@@ -18,36 +18,150 @@ use Rattle.model.specs.LargestRuns.{MaximalExecution, LargestRun, LowestOutside
 use Rattle.model.specs.Orders.{MustPrecedeIn}
 use Rattle.model.specs.Runs.{CompleteRunOf, NoCompleteRun}
 use Rattle.model.proofs.Largest.{execution-exists, execution-nothing}
+use Rattle.model.proofs.SharedOrder.{unordered-executions}
 use Rattle.accept.specs.Acceptance.{AcceptedTrace, acceptAnswer}
 use Rattle.accept.specs.Refusals.{RefusedFile, by-reading, by-runs}
 use Rattle.accept.specs.declared.AcceptAnswer.the-variants.{Accepted, Refused}
 use Rattle.accept.proofs.Answers.{answer-means, accepted-answer}
 use Rattle.accept.proofs.Questions.{refused-place, accepted-complete, refused-incomplete, refused-file}
-use Rattle.order_table.specs.Table.{tableAfter}
+use Rattle.accept.proofs.Questions.{accepted-workers}
+use Rattle.order_table.specs.declared.TableAnswer.{TableAnswer}
+use Rattle.order_table.specs.Refusals.{AcceptedTable}
+use Rattle.order_table.specs.Table.{TableCall}
 use Rattle.order_table.proofs.Entries.{after-execution, after-must-precede, after-past}
+use Rattle.race_search.specs.declared.Race.{Race}
+use Rattle.race_search.specs.Race.{Conflict, RaceIn, RaceListOf}
+use Rattle.race_search.specs.RaceList.{raceList, raceCount}
+use Rattle.race_search.proofs.OnlyList.{list-of, list-only}
+use Rattle.races.specs.declared.RacesAnswer.{RacesAnswer}
+use Rattle.races.specs.declared.RacesAnswer.the-variants as races
+use Rattle.races.specs.Races.{records, shorter, PlanCall, RacesCall}
+use Rattle.races.specs.Refusals.{AcceptedRaces}
+use Rattle.races.proofs.Answers.{races-listed, races-short}
+use Rattle.races.proofs.Listed.{lists-hold, lists-past}
+use Rattle.race_list.specs.Listing.{ListCall}
+use Rattle.race_list.proofs.Lists.{list-holds, list-past}
 
 -- "The table [is that] of the maximal valid executions of Wisconsin report 1084."
 
--- For an accepted file, and a lent table that holds at least n × p numbers:
-module _ {bytes : List ℕ} {t : Trace} (h : AcceptedTrace bytes t) (lent : List ℕ)
-    (l : size t * t .workers ≤ length lent) where
+-- For an accepted file, a lent table that holds at least n × p numbers, and what the call (`TableCall`) leaves in it:
+module _ {bytes : List ℕ} {t : Trace} (h : AcceptedTrace bytes t) {lent now : List ℕ} {answer : TableAnswer}
+    (l : size t * t .workers ≤ length lent) (c : TableCall bytes lent answer now) where
+  room : AcceptedTable bytes (length lent) t
+  room = record { accepted = h; table-holds = l }
+
   -- Entry q of row k is the number of worker q's operations in every maximal valid execution without k:
   pub table-entry : (k q : ℕ) → k < size t → q < t .workers → (m : List ℕ) → MaximalExecution t k m
-      → getD (tableAfter bytes lent) (k * t .workers + q) 0 ≡ count (workerOf t) q m
-  table-entry k q i j m e = after-execution h lent l k q i j m e
+      → getD now (k * t .workers + q) 0 ≡ count (workerOf t) q m
+  table-entry k q i j m e = rw (c .leaves) (after-execution lent room k q i j m e)
 
   -- For operations a ≠ b, a must precede b exactly if the entry of b's worker in row a is below b's rank:
   pub table-must-precede : (a b : ℕ) → a ≢ b → a < size t → b < size t
-      → MustPrecedeIn t a b ↔ (getD (tableAfter bytes lent) (a * t .workers + workerOf t b) 0 < rank t b)
-  table-must-precede a b d i j = after-must-precede h lent l a b d i j
+      → MustPrecedeIn t a b ↔ (getD now (a * t .workers + workerOf t b) 0 < rank t b)
+  table-must-precede a b d i j = rw (c .leaves) (after-must-precede lent room a b d i j)
 
   -- What lies behind the n rows of p numbers is as before:
-  pub table-past : (i : ℕ) → size t * t .workers ≤ i → getD (tableAfter bytes lent) i 0 ≡ getD lent i 0
-  table-past i j = after-past h lent l i j
+  pub table-past : (i : ℕ) → size t * t .workers ≤ i → getD now i 0 ≡ getD lent i 0
+  table-past i j = rw (c .leaves) (after-past lent room i j)
 
 -- There is a maximal valid execution without k, whatever k is:
 pub execution-without : (t : Trace) (k : ℕ) → (m : List ℕ) × MaximalExecution t k m
 execution-without t k = execution-exists t k
+
+-- "The races [are those] of the maximal valid executions of Wisconsin report 1084."
+
+-- Two operations a < b race exactly if both are Read or Write, at least one a Write, with a common cell (`Conflict`), b
+-- is in every maximal valid execution without a, and a in every one without b:
+pub race-executions : (t : Trace) (a b : ℕ)
+    → RaceIn t a b
+    ↔ (Conflict t a b
+    × ((m : List ℕ) → MaximalExecution t a m → b ∈ m)
+    × ((m : List ℕ) → MaximalExecution t b m → a ∈ m))
+race-executions t a b = (forth, back)
+  where
+    differ : Conflict t a b → a ≢ b
+    differ c e = omega (arith, c .ascending, e)
+
+    forth : RaceIn t a b
+        → Conflict t a b
+        × ((m : List ℕ) → MaximalExecution t a m → b ∈ m)
+        × ((m : List ℕ) → MaximalExecution t b m → a ∈ m)
+    forth r =
+        let (x, y) = unordered-executions t (differ (r .conflict)) .0 (r .unordered) in
+        (r .conflict, x, y)
+
+    back : Conflict t a b
+        × ((m : List ℕ) → MaximalExecution t a m → b ∈ m)
+        × ((m : List ℕ) → MaximalExecution t b m → a ∈ m)
+        → RaceIn t a b
+    back (c, x, y) = record { conflict = c; unordered = unordered-executions t (differ c) .1 (x, y) }
+
+-- The list of an accepted trace's races, "ascending by lower, then higher, each once": there is one, and only one.
+module _ {bytes : List ℕ} {t : Trace} (h : AcceptedTrace bytes t) where
+  pub race-list-exists : (l : List Race) × RaceListOf t l
+  race-list-exists = (raceList t, list-of (accepted-workers h))
+
+  pub race-list-same : {l k : List Race} → RaceListOf t l → RaceListOf t k → l ≡ k
+  race-list-same p q = list-only (accepted-workers h) p ∙ sym (list-only (accepted-workers h) q)
+
+-- For an accepted file, a lent table that holds at least n × p numbers, and what a call with a list of `room` records
+-- answers, in either form of the list (`PlanCall`; demand 1's `race-list-plans`, `races-plans`):
+module _ {bytes : List ℕ} {t : Trace} (h : AcceptedTrace bytes t) {lent table-now : List ℕ} {room : ℕ}
+    {answer : RacesAnswer} (l : size t * t .workers ≤ length lent) (c : PlanCall bytes lent room answer table-now) where
+  filled : AcceptedTable bytes (length lent) t
+  filled = record { accepted = h; table-holds = l }
+
+  same-count : {all : List Race} → RaceListOf t all → length all ≡ raceCount t
+  same-count r = ap length (list-only (accepted-workers h) r)
+
+  -- The races are listed exactly if there are no more of them than records, and the count is how many there are:
+  pub races-count : {all : List Race} → RaceListOf t all → (m : ℕ)
+      → (answer ≡ races.Listed (t .workers) (size t) m) ↔ ((length all ≤ room) × (m ≡ length all))
+  races-count {all} r m = rw (c .answers) (Iff·trans (races-listed bytes (length lent) room h m) (
+    λ p. (omega (arith, p .0 .list-holds, same-count r), omega (arith, p .1, same-count r)),
+    λ p. (
+      record { filled = filled; list-holds = omega (arith, p .0, same-count r) },
+      omega (arith, p .1, same-count r),
+    ),
+  ))
+
+  -- The buyer: "'No space for the races' must agree with the real number of races."
+  pub races-no-space : {all : List Race} → RaceListOf t all → (k : ℕ)
+      → (answer ≡ races.Refused 16 k) ↔ ((room < length all) × (k ≡ length all))
+  races-no-space r k = rw (c .answers, same-count r) (races-short bytes (length lent) room filled k)
+
+-- Where they are listed, the first records of the list are the list of races, and what lies behind them is as before;
+-- so for the list of records:
+module _ {bytes : List ℕ} {t : Trace} (h : AcceptedTrace bytes t) {lent table-now : List ℕ}
+    {list list-now : List Race} {answer : RacesAnswer} (c : ListCall bytes lent list answer table-now list-now) {m : ℕ}
+    (a : answer ≡ races.Listed (t .workers) (size t) m) where
+  listed : AcceptedRaces bytes (length lent) (length list) t × (m ≡ raceCount t)
+  listed = races-listed bytes (length lent) (length list) h m .0 (sym (c .answers) ∙ a)
+
+  pub race-list-holds : RaceListOf t (take m list-now)
+  race-list-holds =
+      rw (c .leaves-list, listed .1, list-holds bytes lent list (listed .0)) (list-of (accepted-workers h))
+
+  pub race-list-past : (d : Race) (i : ℕ) → m ≤ i → getD list-now i d ≡ getD list i d
+  race-list-past d i l = rw (c .leaves-list) (list-past bytes lent list (listed .0) d i (omega (arith, listed .1)))
+
+-- and for the two lists of numbers, each place of which is a record:
+module _ {bytes : List ℕ} {t : Trace} (h : AcceptedTrace bytes t)
+    {lent lower higher table-now lower-now higher-now : List ℕ} {answer : RacesAnswer}
+    (c : RacesCall bytes lent lower higher answer table-now lower-now higher-now) {m : ℕ}
+    (a : answer ≡ races.Listed (t .workers) (size t) m) where
+  both-listed : AcceptedRaces bytes (length lent) (shorter (length lower) (length higher)) t × (m ≡ raceCount t)
+  both-listed = races-listed bytes (length lent) _ h m .0 (sym (c .answers) ∙ a)
+
+  pub races-hold : RaceListOf t (take m (records lower-now higher-now))
+  races-hold =
+      let hold = lists-hold bytes lent lower higher (both-listed .0) in
+      rw (c .leaves-lower, c .leaves-higher, both-listed .1, hold) (list-of (accepted-workers h))
+
+  pub races-past : (i : ℕ) → m ≤ i → (getD lower-now i 0 ≡ getD lower i 0) × (getD higher-now i 0 ≡ getD higher i 0)
+  races-past i l =
+      let past = lists-past bytes lent lower higher (both-listed .0) i (omega (arith, both-listed .1)) in
+      rw (c .leaves-lower, c .leaves-higher) past
 
 -- "The refusal of stuck traces [is that] of the maximal valid executions of Wisconsin report 1084."
 

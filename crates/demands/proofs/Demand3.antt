@@ -1,6 +1,7 @@
--- The customer's demand 3, sentence by sentence, as theorems about what the calls answer and leave in lent memory: the
--- definitions that their contracts cite, at any file bytes and lent memory. A run, a complete run and "stands before"
--- are those of document 01, on the trace that the file's bytes read as.
+-- The customer's demand 3, sentence by sentence, as theorems about what the calls answer and leave in lent memory, at
+-- any file bytes and lent memory: by the definition that the pair order's contract equals, and by the promise of the
+-- two runs (`RunsCall`). A run, a complete run and "stands before" are those of document 01, on the trace that the
+-- file's bytes read as.
 use mathlib.Core.List.{List, _++_}
 use mathlib.Core.Logic.{_⊎_, inl, inr, _↔_, _≢_, Iff·trans}
 use mathlib.Core.Path.{_≡_, refl, sym, _∙_}
@@ -23,7 +24,8 @@ use Rattle.pair_order.specs.Refusals.{AcceptedPair}
 use Rattle.pair_order.specs.declared.OrderAnswer.the-variants.{Ordered, Refused}
 use Rattle.pair_order.proofs.Orders.{answer-sign, swapped-order, swapped-refusal}
 use Rattle.two_runs.specs.Refusals.{AcceptedRuns}
-use Rattle.two_runs.specs.Runs.{runsAnswer, firstAfter, secondAfter}
+use Rattle.two_runs.specs.Runs.{RunsCall}
+use Rattle.two_runs.specs.declared.RunsAnswer.{RunsAnswer}
 use Rattle.two_runs.specs.declared.RunsAnswer.the-variants.{Runs}
 use Rattle.two_runs.proofs.Answers.{runs-given, runs-when}
 use Rattle.two_runs.proofs.Buffers.{StartsWithRun, after-first, after-second}
@@ -79,59 +81,62 @@ refusal-swapped bytes a b q k e = swapped-refusal bytes a b q k e
 
 -- ---- The two runs
 
--- For every accepted trace, any two numbers and any two buffers:
-module _ {bytes : List ℕ} {t : Trace} (h : AcceptedTrace bytes t) (a b : ℕ) (first second : List ℕ) where
+-- For every accepted trace, any two numbers and any two buffers, and what the call (`RunsCall`) answers and leaves in
+-- the buffers:
+module _ {bytes : List ℕ} {t : Trace} (h : AcceptedTrace bytes t) {a b : ℕ}
+    {first second first-now second-now : List ℕ} {answer : RunsAnswer}
+    (c : RunsCall bytes a b first second answer first-now second-now) where
   -- "Two runs are returned exactly when the pair order is 0 and both run buffers hold at least as many numbers as there
   -- are operations":
-  pub runs-exactly : ((m : ℕ) × (runsAnswer bytes a b first second ≡ Runs m))
+  pub runs-exactly : ((m : ℕ) × (answer ≡ Runs m))
       ↔ ((orderAnswer bytes a b ≡ Ordered (pos 0)) × (size t ≤ length first) × (size t ≤ length second))
-  runs-exactly = (
+  runs-exactly = rw (c .answers) (
     λ p. runs-when bytes a b first second h .0 (runs-given bytes a b first second h (p .0) .0 (p .1) .0),
     λ p. (size t, runs-given bytes a b first second h (size t) .1 (runs-when bytes a b first second h .1 p, refl)),
   )
 
   -- "Then":
-  module _ {m : ℕ} (e : runsAnswer bytes a b first second ≡ Runs m) where
+  module _ {m : ℕ} (e : answer ≡ Runs m) where
     given : AcceptedRuns bytes a b (length first) (length second) t
-    given = runs-given bytes a b first second h m .0 e .0
+    given = runs-given bytes a b first second h m .0 (sym (c .answers) ∙ e) .0
 
-    in-first : StartsWithRun t a b first (firstAfter bytes a b first second)
-    in-first = after-first bytes a b first second given
+    in-first : StartsWithRun t a b first first-now
+    in-first = rw (c .leaves-first) (after-first bytes a b first second given)
 
-    in-second : StartsWithRun t b a second (secondAfter bytes a b first second)
-    in-second = after-second bytes a b first second given
+    in-second : StartsWithRun t b a second second-now
+    in-second = rw (c .leaves-second) (after-second bytes a b first second given)
 
     -- The answer is the operation count, how many numbers are written to each buffer:
     pub runs-count : m ≡ size t
-    runs-count = runs-given bytes a b first second h m .0 e .1
+    runs-count = runs-given bytes a b first second h m .0 (sym (c .answers) ∙ e) .1
 
     -- "each buffer starts with its run by document 01's rule": the first with the run that holds b back, the second
     -- with the run that holds a back:
-    pub first-by-rule : HeldBackRun t b (take (size t) (firstAfter bytes a b first second))
+    pub first-by-rule : HeldBackRun t b (take (size t) first-now)
     first-by-rule = in-first .by-rule
 
-    pub second-by-rule : HeldBackRun t a (take (size t) (secondAfter bytes a b first second))
+    pub second-by-rule : HeldBackRun t a (take (size t) second-now)
     second-by-rule = in-second .by-rule
 
     -- "Both are complete runs of the trace":
-    pub first-complete : CompleteRunOf t (take (size t) (firstAfter bytes a b first second))
+    pub first-complete : CompleteRunOf t (take (size t) first-now)
     first-complete = in-first .complete
 
-    pub second-complete : CompleteRunOf t (take (size t) (secondAfter bytes a b first second))
+    pub second-complete : CompleteRunOf t (take (size t) second-now)
     second-complete = in-second .complete
 
     -- "a stands before b in the first buffer's run, and b before a in the second's":
-    pub first-has-a-before : StandsBefore a b (take (size t) (firstAfter bytes a b first second))
+    pub first-has-a-before : StandsBefore a b (take (size t) first-now)
     first-has-a-before = in-first .before
 
-    pub second-has-b-before : StandsBefore b a (take (size t) (secondAfter bytes a b first second))
+    pub second-has-b-before : StandsBefore b a (take (size t) second-now)
     second-has-b-before = in-second .before
 
     -- document 01: "everything past the last element written is as before":
-    pub first-past : (i : ℕ) → size t ≤ i → getD (firstAfter bytes a b first second) i 0 ≡ getD first i 0
+    pub first-past : (i : ℕ) → size t ≤ i → getD first-now i 0 ≡ getD first i 0
     first-past i l = in-first .past i l
 
-    pub second-past : (i : ℕ) → size t ≤ i → getD (secondAfter bytes a b first second) i 0 ≡ getD second i 0
+    pub second-past : (i : ℕ) → size t ≤ i → getD second-now i 0 ≡ getD second i 0
     second-past i l = in-second .past i l
 
 -- The rule leaves no choice: for every accepted trace and any number there is one run that holds it back, and only one:

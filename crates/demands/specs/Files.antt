@@ -37,3 +37,10 @@ postThenWait = headed 1 2 (postRecord 0 1 (waitRecord 0 1 []))
 -- E: p = 1, n = 0
 abbrev pub fileE : List ℕ
 fileE = headed 1 0 []
+
+-- F: Write 10 len 5 and Read 15 len 1, by two workers; "with Read 14"
+abbrev pub readBehindWrite : List ℕ
+readBehindWrite = headed 2 2 (writeRecord 0 10 5 (readRecord 1 15 1 []))
+
+abbrev pub readInWrite : List ℕ
+readInWrite = headed 2 2 (writeRecord 0 10 5 (readRecord 1 14 1 []))

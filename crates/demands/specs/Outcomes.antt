@@ -2,7 +2,7 @@
 -- Follows: the letter, demand 1; document 01, "The questions".
 -- Differs: nowhere.
 use mathlib.Core.List.{List}
-use Prim.Native.Nat.{ℕ, _*_, _≤_}
+use Prim.Native.Nat.{ℕ}
 use Rattle.trace.specs.Trace.{Trace, size}
 use Rattle.model.specs.Computed.{pairOrder}
 use Rattle.accept.specs.declared.AcceptAnswer.{AcceptAnswer}
@@ -11,13 +11,17 @@ use Rattle.accept.specs.Acceptance.{AcceptedTrace}
 use Rattle.accept.specs.Refusals.{RefusedFile}
 use Rattle.order_table.specs.declared.TableAnswer.{TableAnswer}
 use Rattle.order_table.specs.declared.TableAnswer.the-variants as table
-use Rattle.order_table.specs.Refusals.{RefusedTable}
+use Rattle.order_table.specs.Refusals.{AcceptedTable, RefusedTable}
 use Rattle.pair_order.specs.declared.OrderAnswer.{OrderAnswer}
 use Rattle.pair_order.specs.declared.OrderAnswer.the-variants as order
 use Rattle.pair_order.specs.Refusals.{AcceptedPair, RefusedPair}
 use Rattle.two_runs.specs.declared.RunsAnswer.{RunsAnswer}
 use Rattle.two_runs.specs.declared.RunsAnswer.the-variants as runs
 use Rattle.two_runs.specs.Refusals.{AcceptedRuns, RefusedRuns}
+use Rattle.race_search.specs.RaceList.{raceCount}
+use Rattle.races.specs.declared.RacesAnswer.{RacesAnswer}
+use Rattle.races.specs.declared.RacesAnswer.the-variants as races
+use Rattle.races.specs.Refusals.{AcceptedRaces, RefusedRaces}
 
 -- of any call: its result for a trace that passes the questions, or the refusal by the first "no" among them
 pub data Outcome {X : Type 0} (result : Trace → X) (refusal : ℕ → ℕ → X)
@@ -36,7 +40,7 @@ TableOutcome bytes room =
     Outcome
     (λ t. table.Filled (t .workers) (size t))
     table.Refused
-    (λ t. AcceptedTrace bytes t × (size t * t .workers ≤ room))
+    (AcceptedTable bytes room)
     (RefusedTable bytes room)
 
 -- the pair order: the order of two different operations of the accepted trace, or the refusal by questions 1 to 10, 12
@@ -50,3 +54,13 @@ OrderOutcome bytes a b =
 abbrev pub RunsOutcome : List ℕ → ℕ → ℕ → ℕ → ℕ → RunsAnswer → Type 0
 RunsOutcome bytes a b x y =
     Outcome (λ t. runs.Runs (size t)) runs.Refused (AcceptedRuns bytes a b x y) (RefusedRuns bytes a b x y)
+
+-- the races, where the table holds `numbers` numbers and the list `room` records: the counts and the number of races,
+-- or the refusal by questions 1 to 11 and 16
+abbrev pub RacesOutcome : List ℕ → ℕ → ℕ → RacesAnswer → Type 0
+RacesOutcome bytes numbers room =
+    Outcome
+    (λ t. races.Listed (t .workers) (size t) (raceCount t))
+    races.Refused
+    (AcceptedRaces bytes numbers room)
+    (RefusedRaces bytes numbers room)

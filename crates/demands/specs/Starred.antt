@@ -1,7 +1,7 @@
 -- The starred examples of document 01, one list, computed from file bytes by the definitions that the calls' contracts
 -- cite.
 -- Follows: document 01, "Examples". A and B, whose rows, orders, runs and races are starred there, are accepted.
--- Differs: nowhere. Beside the starred ones, marked *, it has refusals by questions 10 to 15, and lent memory that just
+-- Differs: nowhere. Beside the starred ones, marked *, it has refusals by questions 10 to 16, and lent memory that just
 -- fits, is longer, or is too short.
 use mathlib.Core.List.{List, [], _∷_, _++_}
 use mathlib.Core.Path.{_≡_, refl}
@@ -31,11 +31,21 @@ use Rattle.two_runs.specs.declared.RunsAnswer.the-variants as runs
 use Rattle.two_runs.specs.Runs.{runsReading, runsAnswer, firstAfter, secondAfter}
 use Rattle.beginning.specs.Computed.{firstIndex, beginningLength, prefixOf, beginningOf}
 use Rattle.beginning.specs.Returned.{ofSecond}
-use Rattle.demands.specs.Files.{fileB, fileC, waitThenPost, postThenWait, fileE}
+use Rattle.race_search.specs.Intervals.{overlap}
+use Rattle.race_search.specs.RaceList.{clash, isRace, pair, racesOf, racesBelow, raceList}
+use Rattle.races.specs.declared.RacesAnswer.the-variants.{Listed}
+use Rattle.races.specs.declared.RacesAnswer.the-variants as races
+use Rattle.races.specs.Races.{racesReading, racesAnswer, racesListed, lowerAfter, higherAfter}
+use Rattle.race_list.specs.Listing.{listAfter}
+use Rattle.demands.specs.Files.{fileB, fileC, waitThenPost, postThenWait, fileE, readBehindWrite, readInWrite}
 
 -- a trace of p workers
 abbrev pub traceWith : ℕ → List Operation → Trace
 traceWith p l = record { workers = p; operations = l }
+
+-- F's first operation
+abbrev pub write10len5 : Operation
+write10len5 = record { worker = 0; kind = 4; number = 10; length = 5 }
 
 -- the example files are those of document 01
 pub files : (fileReading fileA ≡ reads traceA)
@@ -44,9 +54,11 @@ pub files : (fileReading fileA ≡ reads traceA)
     × (fileReading waitThenPost ≡ reads (traceWith 1 (wait 0 1 ∷ post 0 1 ∷ [])))
     × (fileReading postThenWait ≡ reads (traceWith 1 (post 0 1 ∷ wait 0 1 ∷ [])))
     × (fileReading fileE ≡ reads (traceWith 1 []))
+    × (fileReading readBehindWrite ≡ reads (traceWith 2 (write10len5 ∷ readCell 1 15 ∷ [])))
+    × (fileReading readInWrite ≡ reads (traceWith 2 (write10len5 ∷ readCell 1 14 ∷ [])))
 unfolding value operationIn marked ranked isHeader workersFit headerQuestion ofWorker isSync isAccess kindKnown
     eventFits cellsFit recordQuestion readingFrom reading fileReading
-files = (refl, refl, refl, refl, refl, refl)
+files = (refl, refl, refl, refl, refl, refl, refl, refl)
 
 -- A's seven rows
 abbrev pub rowsA : List ℕ
@@ -122,11 +134,49 @@ pub starred :
     × (tableAfter fileC (nines 8) ≡ nines 8)
     × (tableAnswer fileE [] ≡ Filled 1 0)
     × (tableAfter fileE [] ≡ [])
+    -- B2*: "race 0 4", and no other: in lists of just as many numbers, and longer; in lists of records
+    × (racesAnswer fileB 15 1 ≡ Listed 3 5 1)
+    × (racesListed fileB 15 1 ≡ pair 0 4 ∷ [])
+    × (lowerAfter fileB (nines 15) (nines 1) (nines 2) ≡ 0 ∷ [])
+    × (higherAfter fileB (nines 15) (nines 1) (nines 2) ≡ 4 ∷ 9 ∷ [])
+    × (listAfter fileB (nines 15) (pair 9 9 ∷ []) ≡ pair 0 4 ∷ [])
+    × (listAfter fileB (nines 15) (pair 9 9 ∷ pair 9 9 ∷ []) ≡ pair 0 4 ∷ pair 9 9 ∷ [])
+    -- no space for it; too short a table is refused first
+    × (racesAnswer fileB 15 0 ≡ races.Refused 16 1)
+    × (lowerAfter fileB (nines 15) [] (nines 2) ≡ [])
+    × (higherAfter fileB (nines 15) [] (nines 2) ≡ nines 2)
+    × (racesAnswer fileB 14 0 ≡ races.Refused 11 0)
+    × (racesAnswer fileC 0 0 ≡ races.Refused 10 0)
+    -- A's race
+    × (racesListed fileA 21 1 ≡ pair 3 5 ∷ [])
+    -- E*: "races 0"
+    × (racesAnswer fileE 0 0 ≡ Listed 1 0 0)
+    -- F*: "Write 10 len 5 and Read 15 len 1 have no common cell; with Read 14 they do."
+    × (racesAnswer readBehindWrite 4 0 ≡ Listed 2 2 0)
+    × (racesAnswer readInWrite 4 1 ≡ Listed 2 2 1)
+    × (racesListed readInWrite 4 1 ≡ pair 0 1 ∷ [])
 unfolding value operationIn marked ranked isHeader workersFit headerQuestion ofWorker isSync isAccess kindKnown
     eventFits cellsFit recordQuestion readingFrom reading fileReading largestRun firstOutside acceptance acceptAnswer
     largestRunWithout row rows tableReading tableAnswer tableAfter mustPrecedeIn pairOrder heldBackRun pairReading
-    orderAnswer runsReading runsAnswer firstAfter secondAfter firstIndex beginningLength prefixOf
+    orderAnswer runsReading runsAnswer firstAfter secondAfter firstIndex beginningLength prefixOf overlap clash isRace
+    racesOf racesBelow raceList racesReading racesAnswer racesListed lowerAfter higherAfter
 starred = (
+  refl,
+  refl,
+  refl,
+  refl,
+  refl,
+  refl,
+  refl,
+  refl,
+  refl,
+  refl,
+  refl,
+  refl,
+  refl,
+  refl,
+  refl,
+  refl,
   refl,
   refl,
   refl,

@@ -1,5 +1,5 @@
 -- The order of two operations of a trace. In order: must-precede, by its definition, by its test, and as the order that
--- all complete runs share; the pair order.
+-- all complete runs share; that neither must precede the other, by maximal valid executions; the pair order.
 use mathlib.Core.Bool.{Bool, true, false, cond, not, _&&_}
 use mathlib.Core.List.{List}
 use mathlib.Core.Logic.{_⊎_, inl, inr, _↔_, _≢_, Iff·trans}
@@ -7,16 +7,20 @@ use mathlib.Core.Path.{_≡_, refl, sym}
 use Prim.Native.Nat.{ℕ, _<_}
 use lib.Dec.{T}
 use lib.IntN.{ℤ, pos, negsuc, negℤ}
+use Rattle.runs.specs.Membership.{_∈_}
 use Rattle.runs.specs.MustPrecede.{MustPrecede}
 use Rattle.runs.specs.Run.{Complete, StandsBefore}
 use Rattle.runs.proofs.Booleans.{zero-one, test-true, both-pass, one-fails, not-passes, not-fails}
+use Rattle.runs.proofs.Members.{in-by-contradiction}
 use Rattle.runs.proofs.SharedOrder.{must-precede-shared, must-precede-asymmetric, must-precede-test}
+use Rattle.runs.proofs.SharedOrder.{must-precede-outside}
 use Rattle.trace.specs.Trace.{Trace, size}
 use Rattle.model.specs.Computed.{mustPrecedeIn, unorderedIn, pairOrder}
+use Rattle.model.specs.LargestRuns.{MaximalExecution}
 use Rattle.model.specs.Orders.{MustPrecedeIn, Unordered, AlwaysBefore}
 use Rattle.model.specs.Rule.{rule, WorkersKnown}
 use Rattle.model.specs.Runs.{CompleteRunOf}
-use Rattle.model.proofs.Largest.{execution-means}
+use Rattle.model.proofs.Largest.{execution-means, execution-exists}
 use Rattle.model.proofs.RuleLaws.{rule-monotone, order-preference}
 use Rattle.model.proofs.TraceRuns.{complete-means}
 
@@ -51,6 +55,22 @@ module _ {t : Trace} (w : WorkersKnown t) where
   unfolding mustPrecedeIn
   must-precede-in-test a b =
       Iff·trans (must-precede-test (rule-monotone t) (order-preference w) a b) (must-precede-means t)
+
+-- neither must precede the other exactly if each is in every maximal valid execution without the other
+pub unordered-executions : (t : Trace) {a b : ℕ} → a ≢ b
+    → Unordered t a b
+    ↔ (((m : List ℕ) → MaximalExecution t a m → b ∈ m) × ((m : List ℕ) → MaximalExecution t b m → a ∈ m))
+unordered-executions t {a} {b} d = (
+  λ u. (inside d (u .not-before), inside (λ e. d (sym e)) (u .not-after)),
+  λ p. record { not-before = outside (p .0); not-after = outside (p .1) },
+)
+  where
+    inside : {x y : ℕ} → x ≢ y → (MustPrecedeIn t x y → ⊥) → (m : List ℕ) → MaximalExecution t x m → y ∈ m
+    inside {x} {y} d n m k = in-by-contradiction y m (λ lacks.
+        n (must-precede-means t .0 (must-precede-outside (rule-monotone t) d (execution-means t .1 k) .1 lacks)))
+
+    outside : {x y : ℕ} → ((m : List ℕ) → MaximalExecution t x m → y ∈ m) → MustPrecedeIn t x y → ⊥
+    outside {x} f p = let (m, k) = execution-exists t x in p .outside m k (f m k)
 
 -- ---- the pair order
 

@@ -19,7 +19,7 @@ use Rattle.lent.specs.Written.{writtenOver}
 use Rattle.order_table.specs.declared.TableAnswer.the-variants.{Filled, Refused}
 use Rattle.order_table.specs.Table.{orderTable, tableReading, answerOf, leftBy, tableAnswer, tableAfter}
 use Rattle.order_table.specs.Table.{TableCall}
-use Rattle.order_table.specs.Refusals.{RefusedTable}
+use Rattle.order_table.specs.Refusals.{AcceptedTable, RefusedTable}
 use Rattle.order_table.proofs.Questions.{table-comes-out}
 
 -- ---- by the outcome of the questions
@@ -39,7 +39,9 @@ module _ {bytes : List ℕ} {p n : ℕ} (a : AcceptedTrace bytes (traceOf bytes)
     pub call-filled : n * p ≤ length lent → {now : List ℕ} → now ≡ writtenOver (orderTable (traceOf bytes)) lent
         → TableCall bytes lent (Filled p n) now
     call-filled l i =
-        let passed = table-comes-out bytes (length lent) .passes (traceOf bytes) .1 (a .0, rw numbers l) in
+        let room : AcceptedTable bytes (length lent) (traceOf bytes)
+        = record { accepted = a .0; table-holds = rw numbers l } in
+        let passed = table-comes-out bytes (length lent) .passes (traceOf bytes) .1 room in
         let c = call-by bytes lent passed in
         record { answers = rw (a .1 .workers, a .1 .count) at (c .answers); leaves = i ∙ c .leaves }
 
@@ -66,13 +68,14 @@ module _ (bytes lent : List ℕ) where
       tells : TellsRefusals answerOf
       tells = record { apart = λ q k t z. zero-one cc; same = λ q k x y z. cc }
 
-  -- the file is accepted, its trace has p workers and n operations, and the table is long enough
+  -- the file is accepted and the table long enough; the trace has p workers and n operations
   pub table-filled : (p n : ℕ) → tableAnswer bytes lent ≡ Filled p n
-      → AcceptedTrace bytes (traceOf bytes) × HoldsTrace bytes p n × (n * p ≤ length lent)
+      → AcceptedTable bytes (length lent) (traceOf bytes) × HoldsTrace bytes p n
   unfolding tableAnswer
   table-filled p n a =
       let (t, e, i) = outcome-reads answerOf (λ q k z. zero-one cc) (tableReading bytes (length lent)) a in
-      let (accepted, l) = table-comes-out bytes (length lent) .passes t .0 e in
+      let passed = table-comes-out bytes (length lent) .passes t .0 e in
       let ep : t .workers ≡ p = cc in
       let en : size t ≡ n = cc in
-      (rw (accepted-trace accepted) accepted, rw (ep, en) at (accepted-holds accepted), rw (ep, en) at l)
+      let same = accepted-trace (passed .accepted) in
+      (rw same passed, rw (ep, en) at (accepted-holds (passed .accepted)))

@@ -14,11 +14,12 @@ use Rattle.trace.specs.Trace.{Trace, size, workerOf, rank}
 use Rattle.model.specs.Computed.{row}
 use Rattle.model.specs.LargestRuns.{MaximalExecution}
 use Rattle.model.specs.Orders.{MustPrecedeIn}
+use Rattle.model.specs.Rule.{WorkersKnown}
 use Rattle.model.proofs.TableRows.{row-length, row-execution, row-must-precede}
-use Rattle.accept.specs.Acceptance.{AcceptedTrace}
 use Rattle.accept.proofs.Questions.{accepted-workers}
 use Rattle.lent.specs.Written.{writtenOver}
 use Rattle.lent.proofs.Writing.{written-length, written-past}
+use Rattle.order_table.specs.Refusals.{AcceptedTable}
 use Rattle.order_table.specs.Table.{rows, orderTable, tableReading, tableAfter}
 use Rattle.order_table.proofs.Questions.{table-comes-out}
 use Rattle.order_table.proofs.Answers.{call-by}
@@ -49,15 +50,17 @@ after-length bytes lent = go (tableReading bytes (length lent)) refl
     go : (r : Reading) → tableReading bytes (length lent) ≡ r → length (tableAfter bytes lent) ≡ length lent
     go (refused q k) e = rw (← call-by bytes lent e .leaves)
     go (reads t) e =
-        let fits = table-comes-out bytes (length lent) .passes t .0 e .1 in
+        let fits = table-comes-out bytes (length lent) .passes t .0 e .table-holds in
         rw (← call-by bytes lent e .leaves) (written-length (orderTable t) lent (rw (rows-length t (size t)) fits))
 
 -- ---- after success
 
-module _ {bytes : List ℕ} {t : Trace} (a : AcceptedTrace bytes t) (lent : List ℕ)
-    (l : size t * t .workers ≤ length lent) where
-  after-filled : tableAfter bytes lent ≡ writtenOver (orderTable t) lent
-  after-filled = sym (call-by bytes lent (table-comes-out bytes (length lent) .passes t .1 (a, l)) .leaves)
+module _ {bytes : List ℕ} {t : Trace} (lent : List ℕ) (f : AcceptedTable bytes (length lent) t) where
+  pub after-filled : tableAfter bytes lent ≡ writtenOver (orderTable t) lent
+  after-filled = sym (call-by bytes lent (table-comes-out bytes (length lent) .passes t .1 f) .leaves)
+
+  known : WorkersKnown t
+  known = accepted-workers (f .accepted)
 
   pub after-row : (k : ℕ) → k < size t → take (t .workers) (drop (k * t .workers) (tableAfter bytes lent)) ≡ row t k
   after-row k i = rw after-filled (rows-part t (size t) k (drop (length (orderTable t)) lent) i)
@@ -72,14 +75,14 @@ module _ {bytes : List ℕ} {t : Trace} (a : AcceptedTrace bytes t) (lent : List
   -- entry q of row k is the number of worker q's operations in every maximal valid execution without k
   pub after-execution : (k q : ℕ) → k < size t → q < t .workers → (m : List ℕ) → MaximalExecution t k m
       → getD (tableAfter bytes lent) (k * t .workers + q) 0 ≡ count (workerOf t) q m
-  after-execution k q i j m e = after-entry k q i j ∙ row-execution (accepted-workers a) e q j
+  after-execution k q i j m e = after-entry k q i j ∙ row-execution known e q j
 
   -- x must precede y exactly if the entry of y's worker in row x is below y's rank
   pub after-must-precede : (x y : ℕ) → x ≢ y → x < size t → y < size t
       → MustPrecedeIn t x y ↔ (getD (tableAfter bytes lent) (x * t .workers + workerOf t y) 0 < rank t y)
   after-must-precede x y d i j =
-      let entry = after-entry x (workerOf t y) i (accepted-workers a .known y j) in
-      rw entry (row-must-precede (accepted-workers a) x y d j)
+      let entry = after-entry x (workerOf t y) i (known .known y j) in
+      rw entry (row-must-precede known x y d j)
 
   pub after-past : (i : ℕ) → size t * t .workers ≤ i → getD (tableAfter bytes lent) i 0 ≡ getD lent i 0
   after-past i j = rw after-filled (written-past (orderTable t) lent 0 i (rw (rows-length t (size t)) j))

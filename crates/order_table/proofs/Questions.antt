@@ -6,22 +6,21 @@ use Prim.Native.Nat.{ℕ, _*_, _≤_}
 use Rattle.trace.specs.Reading.{noPlace}
 use Rattle.trace.specs.Refusals.{by-earlier, by-this}
 use Rattle.trace.specs.Trace.{size}
-use Rattle.trace.proofs.Outcomes.{ComesOut, asks-at-most, ask-next}
-use Rattle.accept.specs.Acceptance.{AcceptedTrace}
+use Rattle.trace.proofs.Outcomes.{ComesOut, asks-at-most, ask-next, pass-as}
 use Rattle.accept.proofs.Questions.{comes-out, refused-number}
-use Rattle.order_table.specs.Refusals.{RefusedTable}
+use Rattle.order_table.specs.Refusals.{AcceptedTable, RefusedTable}
 use Rattle.order_table.specs.Table.{tableReading}
 
 -- ---- when none refuses, and when one does
 
 pub table-comes-out : (bytes : List ℕ) (room : ℕ)
-    → ComesOut
-    (tableReading bytes room)
-    (λ t. AcceptedTrace bytes t × (size t * t .workers ≤ room))
-    (RefusedTable bytes room)
+    → ComesOut (tableReading bytes room) (AcceptedTable bytes room) (RefusedTable bytes room)
 unfolding tableReading
 table-comes-out bytes room =
-    ask-next 11 noPlace (asks-at-most (λ t. size t * t .workers) (λ t. room)) (comes-out bytes)
+    pass-as (ask-next 11 noPlace (asks-at-most (λ t. size t * t .workers) (λ t. room)) (comes-out bytes)) (λ t. (
+      λ p. record { accepted = p .0; table-holds = p .1 },
+      λ p. (p .accepted, p .table-holds),
+    ))
 
 -- ---- which refusals there are
 

@@ -3,12 +3,17 @@
 -- Differs: nowhere. `RefusedFile`, for questions 1 to 10, is in the crate `accept`, and `RefusedNext`, for a further
 -- question, in `trace`. proofs/Questions shows that the call refuses exactly so.
 use mathlib.Core.List.{List}
-use Prim.Native.Nat.{ℕ, _*_, _<_}
+use Prim.Native.Nat.{ℕ, _*_, _<_, _≤_}
 use Rattle.trace.specs.Reading.{noPlace}
 use Rattle.trace.specs.Refusals.{RefusedNext}
-use Rattle.trace.specs.Trace.{size}
+use Rattle.trace.specs.Trace.{Trace, size}
 use Rattle.accept.specs.Acceptance.{AcceptedTrace}
 use Rattle.accept.specs.Refusals.{RefusedFile}
+
+-- the file is accepted, and the table, of `room` numbers, holds at least n × p
+pub record AcceptedTable (bytes : List ℕ) (room : ℕ) (t : Trace) : Type 0 where
+  pub accepted : AcceptedTrace bytes t
+  pub table-holds : size t * t .workers ≤ room
 
 -- the first "no" is one of questions 1 to 10; or the file is accepted, and the table holds fewer than n × p numbers
 abbrev pub RefusedTable : List ℕ → ℕ → ℕ → ℕ → Type 0

@@ -55,6 +55,13 @@ one-fails true b f g = (
 )
 one-fails false b f g = (λ e. inl (f .0 e), λ s. refl)
 
+pub either-passes : (a b : Bool) → (a || b ≡ true) ↔ (T a ⊎ T b)
+either-passes true b = (λ e. inl tt, λ s. refl)
+either-passes false b = (
+  λ e. inr (test-true b .0 e),
+  λ s. elim s [ inl h ↦ absurd h | inr h ↦ test-true b .1 h ],
+)
+
 -- and of a test turned round
 pub not-passes : {X : Type 0} (a : Bool) → T a ↔ X → (not a ≡ true) ↔ (X → ⊥)
 not-passes true f = (λ e x. test-true false .0 e, λ g. absurd (g (f .0 tt)))
@@ -68,6 +75,11 @@ not-fails false f = (λ e. absurd (test-true false .0 (sym e)), λ x. absurd (f 
 pub if-test : (a b : Bool) → T (not a || b) ↔ (T a → T b)
 if-test true b = (λ h t. h, λ f. f tt)
 if-test false b = (λ h t. absurd t, λ f. tt)
+
+-- a test that cannot pass fails
+pub never-passes : (b : Bool) → (b ≡ true → ⊥) → b ≡ false
+never-passes true n = absurd (n refl)
+never-passes false n = refl
 
 -- two tests that pass in the same cases are equal
 pub test-equal : (a b : Bool) → (T a → T b) → (T b → T a) → a ≡ b

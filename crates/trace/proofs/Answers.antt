@@ -1,5 +1,6 @@
--- What callers know of a file from the reader's answer. In order: the trace; the bytes; record k lies inside the file;
--- what the answer says. Which refusal a file gets is in FirstNo, which numbers and places there are in Refusals.
+-- What callers know of a file from the reader's answer. In order: the trace; the bytes; the header; record k lies
+-- inside the file; what the answer says. Which refusal a file gets is in FirstNo, which numbers and places there are in
+-- Refusals.
 use mathlib.Core.List.{List, []}
 use mathlib.Core.Logic.{_↔_}
 use mathlib.Core.Path.{_≡_, refl, sym, ap, _∙_}
@@ -62,6 +63,23 @@ pub file-means : (bytes : List ℕ) (t : Trace) → Bytes bytes
     → (fileReading bytes ≡ reads t) ↔ ((bytes ≡ bytesOf base t) × WellFormed t)
 unfolding fileReading
 file-means bytes t h = reads-means base bytes t h
+
+-- ---- the header
+
+-- the header of a file that reads as a trace lies inside the file, and its counts are the trace's
+pub record HeaderOf (bytes : List ℕ) : Type 0 where
+  pub inside : recordSize base ≤ length bytes
+  pub workers : operationIn bytes .worker ≡ traceOf bytes .workers
+  pub count : operationIn bytes .number ≡ size (traceOf bytes)
+
+pub header-of : {bytes : List ℕ} → fileReading bytes ≡ reads (traceOf bytes) → HeaderOf bytes
+unfolding fileReading
+header-of {bytes} e =
+    record {
+      inside = omega (arith, header-says base bytes (traceOf bytes) e .whole);
+      workers = reads-workers base bytes (traceOf bytes) e;
+      count = reads-count base bytes (traceOf bytes) e;
+    }
 
 -- ---- record k
 

@@ -11,7 +11,7 @@ ghost use Rattle.trace.specs.Premises.{HoldsHeader};
 ghost use Rattle.trace.specs.Questions.{operationIn, marked, isHeader, workersFit, countFits, isWhole};
 ghost use Rattle.trace.specs.Questions.{headerQuestion, workerKnown, kindKnown, eventFits, cellsFit};
 ghost use Rattle.trace.specs.Questions.{recordQuestion};
-ghost use Rattle.trace.specs.Reading.{fileReading, traceOf};
+ghost use Rattle.trace.specs.Reading.{reads, fileReading, traceOf};
 ghost use Rattle.trace.specs.Trace.{size, operation, isSync, isAccess};
 
 // The mark that each record starts with.
@@ -256,6 +256,24 @@ pub fn read(file: &[u8]) -> ReadAnswer
     }
     let header = operation_in(file, 0);
     read_records(file, header.worker, header.number)
+}
+
+// The worker count of the trace that the file reads as.
+pub fn worker_count(file: &[u8]) -> u8
+    requires { ⌜ fileReading (now file) ≡ reads (traceOf (now file)) ⌝ }
+    ensures { λ r. ⌜ r ≡ traceOf (now (file .entry)) .workers ⌝ }
+{
+    let header = operation_in(file, 0);
+    header.worker
+}
+
+// Its operation count.
+pub fn operation_count(file: &[u8]) -> u32
+    requires { ⌜ fileReading (now file) ≡ reads (traceOf (now file)) ⌝ }
+    ensures { λ r. ⌜ r ≡ size (traceOf (now (file .entry))) ⌝ }
+{
+    let header = operation_in(file, 0);
+    header.number
 }
 
 // Operation k of the trace that the file reads as.

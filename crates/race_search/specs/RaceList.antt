@@ -1,0 +1,68 @@
+-- The race list, computed: what the calls' contracts cite.
+-- Follows: document 01, "Race list".
+-- Differs: nowhere; proofs/OnlyList shows that it holds exactly the races of specs/Race, ascending, and
+-- that no other list does.
+use mathlib.Core.Bool.{Bool, cond, _&&_, _||_}
+use mathlib.Core.List.{List, [], _∷_, _++_}
+use Prim.Native.Nat.{ℕ, zero, suc}
+use lib.Dec.{ltb}
+use lib.ListN.{length, getD}
+use Rattle.trace.specs.declared.Operation.{Operation}
+use Rattle.trace.specs.Trace.{Trace, size, operation, isWrite, isAccess}
+use Rattle.model.specs.Computed.{unorderedIn}
+use Rattle.race_search.specs.declared.Race.{Race}
+use Rattle.race_search.specs.Intervals.{overlap}
+
+-- "both Read or Write, at least one a Write, with a common cell"
+unfoldable pub clash : Operation → Operation → Bool
+clash x y =
+    isAccess (x .kind)
+    && (isAccess (y .kind)
+    && ((isWrite (x .kind) || isWrite (y .kind))
+    && overlap (x .number) (x .length) (y .number) (y .length)))
+
+-- do a and b race?
+unfoldable pub isRace : Trace → ℕ → ℕ → Bool
+isRace t a b = ltb a b && (clash (operation t a) (operation t b) && unorderedIn t a b)
+
+-- the record of a and b
+abbrev pub pair : ℕ → ℕ → Race
+pair a b = record { lower = a; higher = b }
+
+-- `before`, and behind it the races of a with the operations below b
+unfoldable pub racesOf : Trace → List Race → ℕ → ℕ → List Race
+racesOf t before a zero = before
+racesOf t before a (suc b) = racesOf t before a b ++ cond (isRace t a b) (pair a b ∷ []) []
+
+-- the races whose lower operation is below a
+unfoldable pub racesBelow : Trace → ℕ → List Race
+racesBelow t zero = []
+racesBelow t (suc a) = racesOf t (racesBelow t a) a (size t)
+
+-- all races
+unfoldable pub raceList : Trace → List Race
+raceList t = racesBelow t (size t)
+
+-- how many there are
+abbrev pub raceCount : Trace → ℕ
+raceCount t = length (raceList t)
+
+-- what stands for a race that is not there
+abbrev pub noRace : Trace → Race
+noRace t = pair (size t) (size t)
+
+-- race i of the list, from 0
+abbrev pub raceAt : Trace → ℕ → Race
+raceAt t i = getD (raceList t) i (noRace t)
+
+-- the races that come before a pair in the list's order
+abbrev pub racesBefore : Trace → ℕ → ℕ → List Race
+racesBefore t a b = racesOf t (racesBelow t a) a b
+
+-- how many there are up to a pair, itself included
+abbrev pub racesUpTo : Trace → Race → ℕ
+racesUpTo t r = length (racesBefore t (r .lower) (suc (r .higher)))
+
+-- the race that follows a pair in the list
+unfoldable pub nextRace : Trace → Race → Race
+nextRace t r = raceAt t (racesUpTo t r)

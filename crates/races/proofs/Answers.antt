@@ -1,0 +1,224 @@
+-- What the call answers and leaves in lent memory. In order: by the outcome of the questions; as the code comes to it;
+-- the races that an answer lists; the call's promise; what the answer says.
+use mathlib.Core.List.{List, [], _∷_, map}
+use mathlib.Core.Logic.{inl, inr, _↔_, Iff·trans}
+use mathlib.Core.Path.{_≡_, refl, sym, ap, _∙_}
+use native.Mathlib.Omega.{arith}
+use Prim.Native.Nat.{ℕ, zero, suc, _<_, _≤_}
+use lib.ListN.{length, take}
+use lib.Seq.{take-length}
+use borrow.Author.Tests.{le-leb, lt-leb}
+use Rattle.runs.proofs.Booleans.{zero-one, less?}
+use Rattle.trace.specs.Premises.{HoldsTrace}
+use Rattle.trace.specs.Reading.{Reading, refused, reads, traceOf}
+use Rattle.trace.specs.Refusals.{by-earlier, by-this}
+use Rattle.trace.specs.Trace.{Trace, size}
+use Rattle.trace.proofs.Outcomes.{TellsRefusals, outcome-refused, outcome-reads}
+use Rattle.accept.specs.Acceptance.{AcceptedTrace}
+use Rattle.accept.proofs.Questions.{accepted-trace}
+use Rattle.order_table.specs.Refusals.{AcceptedTable}
+use Rattle.order_table.specs.Table.{tableAnswer, tableAfter}
+use Rattle.order_table.specs.declared.TableAnswer.the-variants as table
+use Rattle.order_table.proofs.Answers.{table-refused, table-filled}
+use Rattle.order_table.proofs.Entries.{after-length, after-entry}
+use Rattle.order_table.proofs.Questions.{table-comes-out, refused-table-number}
+use Rattle.race_search.specs.Premises.{HoldsTable}
+use Rattle.race_search.specs.RaceList.{raceList, raceCount}
+use Rattle.race_search.specs.declared.Race.{Race}
+use Rattle.races.specs.Premises.{Writable, BothWritten}
+use Rattle.races.specs.Races.{lowerAfter, higherAfter, PlanCall, RacesCall}
+use Rattle.races.specs.Races.{racesReading, answerOf, racesAnswer, listedBy, racesListed, toWrite, shorter}
+use Rattle.races.specs.Refusals.{AcceptedRaces, RefusedRaces}
+use Rattle.races.specs.declared.RacesAnswer.the-variants.{Listed, Refused}
+use Rattle.races.specs.declared.RacesAnswer.{RacesAnswer}
+use Rattle.races.proofs.Questions.{races-comes-out}
+
+-- ---- by the outcome of the questions
+
+module _ (bytes : List ℕ) (numbers room : ℕ) {r : Reading} (e : racesReading bytes numbers room ≡ r) where
+  pub answer-by : racesAnswer bytes numbers room ≡ answerOf r
+  unfolding racesAnswer
+  answer-by = rw e
+
+  pub listed-by : racesListed bytes numbers room ≡ listedBy r
+  unfolding racesListed
+  listed-by = rw e
+
+-- ---- as the code comes to it
+
+module _ (bytes lent : List ℕ) {now : List ℕ} (e : now ≡ tableAfter bytes lent) where
+  -- the order table of an accepted file, after the call that fills it
+  holds-after : {t : Trace} → AcceptedTable bytes (length lent) t → HoldsTable bytes now
+  holds-after {t} f =
+      let same = accepted-trace (f .accepted) in
+      record {
+        accepted = rw same (f .accepted);
+        room = rw (same, e, after-length bytes lent) (f .table-holds);
+        entry = rw (same, e) (after-entry lent f);
+      }
+
+  pub table-after-holds : {p n : ℕ} → tableAnswer bytes lent ≡ table.Filled p n
+      → HoldsTable bytes now × HoldsTrace bytes p n
+  table-after-holds {p} {n} a =
+      let (filled, holds) = table-filled bytes lent p n a in
+      (holds-after filled, holds)
+
+module _ {bytes table : List ℕ} {p n : ℕ} (h : HoldsTable bytes table) (t : HoldsTrace bytes p n) (room : ℕ)
+    {count : ℕ} (e : count ≡ raceCount (traceOf bytes)) where
+  filled : AcceptedTable bytes (length table) (traceOf bytes)
+  filled = record { accepted = h .accepted; table-holds = h .room }
+
+  pub answer-listed : count ≤ room → Listed p n count ≡ racesAnswer bytes (length table) room
+  answer-listed l = rw (← t .workers, ← t .count, e) (sym (answer-by bytes (length table) room passes))
+    where
+      passes : racesReading bytes (length table) room ≡ reads (traceOf bytes)
+      passes =
+          races-comes-out bytes (length table) room .passes (traceOf bytes) .1
+          (record { filled = filled; list-holds = omega (arith, e) })
+
+  pub answer-short : room < count → Refused 16 count ≡ racesAnswer bytes (length table) room
+  answer-short l =
+      let refusal = races-comes-out bytes (length table) room .refuses 16 count .1 short in
+      sym (answer-by bytes (length table) room refusal)
+    where
+      short : RefusedRaces bytes (length table) room 16 count
+      short = by-this (traceOf bytes) filled (omega (arith, e)) refl e
+
+module _ (bytes lent : List ℕ) {now : List ℕ} (room : ℕ) (e : now ≡ tableAfter bytes lent) where
+  pub plan-filled : {answer : RacesAnswer} → answer ≡ racesAnswer bytes (length now) room
+      → PlanCall bytes lent room answer now
+  plan-filled a = record { answers = rw (e, after-length bytes lent) at a; leaves-table = e }
+
+  pub plan-refused : {q k : ℕ} → tableAnswer bytes lent ≡ table.Refused q k → PlanCall bytes lent room (Refused q k) now
+  plan-refused {q} {k} a = record { answers = sym (answer-by bytes (length lent) room refusal); leaves-table = e }
+    where
+      refusal : racesReading bytes (length lent) room ≡ refused q k
+      refusal =
+          let no = table-comes-out bytes (length lent) .refuses q k .0 (table-refused bytes lent q k .0 a) in
+          races-comes-out bytes (length lent) room .refuses q k .1 (by-earlier no)
+
+-- ---- the races that an answer lists
+
+-- what a plan leaves to be written: it fits, it can be written, and it is the races that the call lists
+pub record Planned (bytes table : List ℕ) (numbers room count : ℕ) : Type 0 where
+  pub writable : Writable bytes table count
+  pub fits : count ≤ room
+  pub listed : racesListed bytes numbers room ≡ take count (raceList (traceOf bytes))
+
+module _ {bytes lent now : List ℕ} {room : ℕ} {answer : RacesAnswer} (c : PlanCall bytes lent room answer now) where
+  pub plan-length : length now ≡ length lent
+  plan-length = rw (c .leaves-table) (after-length bytes lent)
+
+  pub planned : Planned bytes now (length lent) room (toWrite answer)
+  planned = go (racesReading bytes (length lent) room) refl
+    where
+      go : (r : Reading) → racesReading bytes (length lent) room ≡ r
+          → Planned bytes now (length lent) room (toWrite answer)
+      go (refused q k) e =
+          rw (c .answers, answer-by bytes (length lent) room e)
+          (record {
+            writable = record { holds = λ l. absurd (omega (arith, l)); some = omega arith };
+            fits = omega arith;
+            listed = listed-by bytes (length lent) room e;
+          })
+      go (reads t) e =
+          let passed = races-comes-out bytes (length lent) room .passes t .0 e in
+          let same = accepted-trace (passed .filled .accepted) in
+          rw (c .answers, answer-by bytes (length lent) room e)
+          (record {
+            writable = record {
+              holds = λ l. holds-after bytes lent (c .leaves-table) (passed .filled);
+              some = rw same (omega arith);
+            };
+            fits = passed .list-holds;
+            listed = listed-by bytes (length lent) room e ∙ rw same (sym (take-length (raceList t)));
+          })
+
+-- ---- the call's promise
+
+-- the shorter of two lengths is at most each of them
+pub shorter-fits : (x y : ℕ) → (shorter x y ≤ x) × (shorter x y ≤ y)
+shorter-fits x y = elim (less? y x) [
+  | inl l ↦ rw (lt-leb x y l) (omega arith, omega arith)
+  | inr l ↦ rw (le-leb x y l) (omega arith, omega arith)
+]
+
+take-map : {A B : Type 0} (f : A → B) (n : ℕ) (l : List A) → take n (map f l) ≡ map f (take n l)
+take-map f zero l = refl
+take-map f (suc n) [] = refl
+take-map {B = B} f (suc n) (x ∷ l) = ap (λ (r : List B). f x ∷ r) (take-map f n l)
+
+module _ (lower higher : List ℕ) {bytes lent now : List ℕ} {room : ℕ} {answer : RacesAnswer}
+    (i : room ≡ shorter (length lower) (length higher)) (c : PlanCall bytes lent room answer now) where
+  pub pairs-writable : {count : ℕ} → count ≡ toWrite answer
+      → Writable bytes now count × (count ≤ length lower) × (count ≤ length higher)
+  pairs-writable e =
+      let short = shorter-fits (length lower) (length higher) in
+      rw e (
+        planned c .writable,
+        omega (arith, planned c .fits, i, short .0),
+        omega (arith, planned c .fits, i, short .1),
+      )
+
+  pub call-races : {count : ℕ} {lower-now higher-now : List ℕ} → count ≡ toWrite answer
+      → BothWritten (traceOf bytes) count lower lower-now higher higher-now
+      → RacesCall bytes lent lower higher answer now lower-now higher-now
+  unfolding lowerAfter higherAfter
+  call-races {count} {lower-now} {higher-now} e w =
+      record {
+        answers = rw i at (c .answers);
+        leaves-table = c .leaves-table;
+        leaves-lower = rw (listed, ← take-map (λ (r : Race). r .lower) count races) (w .lower-written);
+        leaves-higher = rw (listed, ← take-map (λ (r : Race). r .higher) count races) (w .higher-written);
+      }
+    where
+      races : List Race
+      races = raceList (traceOf bytes)
+
+      listed : racesListed bytes (length lent) (shorter (length lower) (length higher)) ≡ take count races
+      listed = rw (← i, e) (planned c .listed)
+
+-- ---- what the answer says
+
+module _ (bytes : List ℕ) (numbers room : ℕ) where
+  pub races-refused : (q k : ℕ)
+      → (racesAnswer bytes numbers room ≡ Refused q k) ↔ (racesReading bytes numbers room ≡ refused q k)
+  unfolding racesAnswer
+  races-refused q k = outcome-refused answerOf tells (racesReading bytes numbers room) q k
+    where
+      tells : TellsRefusals answerOf
+      tells = record { apart = λ q k t z. zero-one cc; same = λ q k x y z. cc }
+
+  -- the table and the list are long enough, and the count is that of the races
+  pub races-listed : {t : Trace} → AcceptedTrace bytes t → (count : ℕ)
+      → (racesAnswer bytes numbers room ≡ Listed (t .workers) (size t) count)
+      ↔ (AcceptedRaces bytes numbers room t × (count ≡ raceCount t))
+  unfolding racesAnswer
+  races-listed {t} h count = (forth, back)
+    where
+      forth : answerOf (racesReading bytes numbers room) ≡ Listed (t .workers) (size t) count
+          → AcceptedRaces bytes numbers room t × (count ≡ raceCount t)
+      forth i =
+          let (u, e, j) = outcome-reads answerOf (λ q k z. zero-one cc) (racesReading bytes numbers room) i in
+          let count-is : count ≡ raceCount u = cc in
+          let passed = races-comes-out bytes numbers room .passes u .0 e in
+          let same : u ≡ t = sym (accepted-trace (passed .filled .accepted)) ∙ accepted-trace h in
+          (rw same at passed, rw same at count-is)
+
+      back : AcceptedRaces bytes numbers room t × (count ≡ raceCount t)
+          → answerOf (racesReading bytes numbers room) ≡ Listed (t .workers) (size t) count
+      back p = rw (races-comes-out bytes numbers room .passes t .1 (p .0), p .1)
+
+  -- where the table is long enough: the list is too short, and the place is the number of races
+  pub races-short : {t : Trace} → AcceptedTable bytes numbers t → (k : ℕ)
+      → (racesAnswer bytes numbers room ≡ Refused 16 k) ↔ ((room < raceCount t) × (k ≡ raceCount t))
+  races-short {t} f k = Iff·trans (races-refused 16 k) (
+    λ e. forth (races-comes-out bytes numbers room .refuses 16 k .0 e),
+    λ p. races-comes-out bytes numbers room .refuses 16 k .1 (by-this t f (p .0) refl (p .1)),
+  )
+    where
+      forth : RefusedRaces bytes numbers room 16 k → (room < raceCount t) × (k ≡ raceCount t)
+      forth (by-earlier r) = absurd (omega (arith, refused-table-number r .1))
+      forth (by-this u g l n z) =
+          let same : u ≡ t = sym (accepted-trace (g .accepted)) ∙ accepted-trace (f .accepted) in
+          (rw same at l, rw same at z)

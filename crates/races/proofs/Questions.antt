@@ -1,0 +1,30 @@
+-- Questions 1 to 11 and 16 of a file, a lent table and a lent race list. In order: when none refuses, and when one
+-- does; which refusals there are.
+use mathlib.Core.List.{List}
+use mathlib.Core.Logic.{_⊎_, inl, inr}
+use mathlib.Core.Path.{_≡_}
+use Prim.Native.Nat.{ℕ, _≤_}
+use Rattle.trace.specs.Refusals.{by-earlier, by-this}
+use Rattle.trace.proofs.Outcomes.{ComesOut, asks-at-most, ask-next, pass-as}
+use Rattle.order_table.proofs.Questions.{table-comes-out, refused-table-number}
+use Rattle.race_search.specs.RaceList.{raceCount}
+use Rattle.races.specs.Races.{racesReading}
+use Rattle.races.specs.Refusals.{AcceptedRaces, RefusedRaces}
+
+-- ---- when none refuses, and when one does
+
+pub races-comes-out : (bytes : List ℕ) (numbers room : ℕ)
+    → ComesOut (racesReading bytes numbers room) (AcceptedRaces bytes numbers room) (RefusedRaces bytes numbers room)
+unfolding racesReading
+races-comes-out bytes numbers room =
+    pass-as (ask-next 16 raceCount (asks-at-most raceCount (λ t. room)) (table-comes-out bytes numbers)) (λ t. (
+      λ p. record { filled = p .0; list-holds = p .1 },
+      λ p. (p .filled, p .list-holds),
+    ))
+
+-- ---- which refusals there are
+
+pub refused-races-number : {bytes : List ℕ} {numbers room q k : ℕ} → RefusedRaces bytes numbers room q k
+    → ((1 ≤ q) × (q ≤ 11)) ⊎ (q ≡ 16)
+refused-races-number (by-earlier r) = inl (refused-table-number r)
+refused-races-number (by-this t p l n z) = inr n

@@ -1,0 +1,23 @@
+-- What the inner functions know, and what they do.
+-- Follows: document 01, "Race list".
+-- Differs: nowhere. Means: the call's contract speaks of none of these.
+use mathlib.Core.List.{List}
+use mathlib.Core.Path.{_≡_}
+use Prim.Native.Nat.{ℕ, _≤_}
+use lib.ListN.{take}
+use Rattle.trace.specs.Reading.{traceOf}
+use Rattle.trace.specs.Trace.{Trace}
+use Rattle.lent.specs.Written.{writtenOver}
+use Rattle.race_search.specs.Premises.{HoldsTable}
+use Rattle.race_search.specs.RaceList.{raceList, raceCount}
+use Rattle.races.specs.Races.{lowers, highers}
+
+-- where there are races to write, there is a table to find them in, and they are no more than there are
+pub record Writable (bytes table : List ℕ) (count : ℕ) : Type 0 where
+  pub holds : 1 ≤ count → HoldsTable bytes table
+  pub some : count ≤ raceCount (traceOf bytes)
+
+-- the first `count` races are written to the two lists
+pub record BothWritten (t : Trace) (count : ℕ) (lower lower-now higher higher-now : List ℕ) : Type 0 where
+  pub lower-written : lower-now ≡ writtenOver (take count (lowers (raceList t))) lower
+  pub higher-written : higher-now ≡ writtenOver (take count (highers (raceList t))) higher
