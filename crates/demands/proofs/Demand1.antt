@@ -206,7 +206,7 @@ module _ {bytes lent table-now : List ℕ} {room : ℕ} {answer : RacesAnswer}
       go : RefusedRaces bytes (length lent) room q k → table-now ≡ lent
       go (by-earlier r) =
           let no = table-comes-out bytes (length lent) .refuses q k .1 r in
-          c .leaves-table ∙ sym (call-by bytes lent no .leaves)
+          table-untouched races-fill-table q k (table-refused bytes lent q k .1 no)
       go (by-this t h l n z) = absurd (d n)
 
   -- document 01: "16 leaves the table filled":

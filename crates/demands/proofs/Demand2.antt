@@ -77,24 +77,13 @@ pub race-executions : (t : Trace) (a b : ℕ)
     ↔ (Conflict t a b
     × ((m : List ℕ) → MaximalExecution t a m → b ∈ m)
     × ((m : List ℕ) → MaximalExecution t b m → a ∈ m))
-race-executions t a b = (forth, back)
+race-executions t a b = (
+  λ r. let (x, y) = unordered-executions t (differ (r .conflict)) .0 (r .unordered) in (r .conflict, x, y),
+  λ p. record { conflict = p .0; unordered = unordered-executions t (differ (p .0)) .1 (p .1, p .2) },
+)
   where
     differ : Conflict t a b → a ≢ b
     differ c e = omega (arith, c .ascending, e)
-
-    forth : RaceIn t a b
-        → Conflict t a b
-        × ((m : List ℕ) → MaximalExecution t a m → b ∈ m)
-        × ((m : List ℕ) → MaximalExecution t b m → a ∈ m)
-    forth r =
-        let (x, y) = unordered-executions t (differ (r .conflict)) .0 (r .unordered) in
-        (r .conflict, x, y)
-
-    back : Conflict t a b
-        × ((m : List ℕ) → MaximalExecution t a m → b ∈ m)
-        × ((m : List ℕ) → MaximalExecution t b m → a ∈ m)
-        → RaceIn t a b
-    back (c, x, y) = record { conflict = c; unordered = unordered-executions t (differ c) .1 (x, y) }
 
 -- The list of an accepted trace's races, "ascending by lower, then higher, each once": there is one, and only one.
 module _ {bytes : List ℕ} {t : Trace} (h : AcceptedTrace bytes t) where

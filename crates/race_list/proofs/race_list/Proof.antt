@@ -224,7 +224,9 @@ module _ {M : Type 1} (𝓤 : URA M) (H : Heap 𝓤) (A : Atoms 𝓤) (W : Given
     )
 
     abbrev Going : ℕ → GName → List (Item 𝓤)
-    Going ν δ = ‵ (flft κ₂ q₂) ∷ ‵ (flft κ₁ q₁) ∷ ‵ (flft (ν ∷ []) fullShare) ∷ ‵ ownL ∷ ‵ ownF ∷ ‵ (shownT ν δ t′) ∷ []
+    Going ν δ = ‵ (flft κ₂ q₂) ∷ ‵ (flft κ₁ q₁) ∷ ‵ (flft (ν ∷ []) fullShare)
+        ∷ ‵ ownL ∷ ‵ ownF ∷ ‵ (shownT ν δ t′)
+        ∷ []
 
     goes-write : (ν : ℕ) (δ : GName) → ent 𝓤 (⋆ 𝓤 H A (Going ν δ)) (Write 𝓤 H A mem run .pre (to-write ν δ))
     goes-write ν δ =
@@ -242,7 +244,8 @@ module _ {M : Type 1} (𝓤 : URA M) (H : Heap 𝓤) (A : Atoms 𝓤) (W : Given
     Filled zs = zs ≡ listed (traceOf (file .now)) (list .now) m
 
     abbrev Ended : List Race → List (Item 𝓤)
-    Ended zs = ‵ (flft κ₁ q₁) ∷ ‵ (flft κ q) ∷ ‵ (flft κ₂ q₂) ∷ ‵ ownF ∷ ‵ (ownT t′) ∷ ‵ (finally R (list .name) zs)
+    Ended zs = ‵ (flft κ₁ q₁) ∷ ‵ (flft κ q) ∷ ‵ (flft κ₂ q₂)
+        ∷ ‵ ownF ∷ ‵ (ownT t′) ∷ ‵ (finally R (list .name) zs)
         ∷ ‵ (ownA r u)
         ∷ []
 
@@ -357,7 +360,8 @@ module _ {M : Type 1} (𝓤 : URA M) (H : Heap 𝓤) (A : Atoms 𝓤) (W : Given
         -- the table is lent as `&`, for a lifetime ν′ of the call
         lft-new ! tt (λ ν′. move ! (1 ∷ 2 ∷ []) $
         use2 W
-        (later (some (λ (δ′ : GName). ‵ (shownT ν′ δ′ (ts .1 .0)) ⊛ ‵ (LentShared u16 κ (ν′ ∷ []) q γ b o (ts .1 .0)))))
+        (later (some (λ (δ′ : GName).
+        ‵ (shownT ν′ δ′ (ts .1 .0)) ⊛ ‵ (LentShared u16 κ (ν′ ∷ []) q γ b o (ts .1 .0)))))
         (lends-shared u16 κ (ν′ ∷ []) q γ b o 𝓤 H A W (named 1) (named 2) (ts .1 .0) (length t) l) $
         await ! tt $ pick ! (λ δ′. split ! $
         -- [table as `&`; its loan; ν′'s token; κ₁'s; the answer; file; κ₂'s token; list; _13 at 8; …]
@@ -378,7 +382,8 @@ module _ {M : Type 1} (𝓤 : URA M) (H : Heap 𝓤) (A : Atoms 𝓤) (W : Given
         (λ v′.
         use1 W
         (later (some (λ (z : Unit {0}).
-        ((‵ (flft κ₂ q₂) ⊛ ‵ (flft κ₁ q₁) ⊛ ‵ (flft (ν′ ∷ []) fullShare) ⊛ ‵ ftrue) ⊛ ‵ (unit .own z (v′ ∷ [])))
+        ((‵ (flft κ₂ q₂) ⊛ ‵ (flft κ₁ q₁) ⊛ ‵ (flft (ν′ ∷ []) fullShare) ⊛ ‵ ftrue)
+        ⊛ ‵ (unit .own z (v′ ∷ [])))
         ⊛ raw (Stored r u m em (ts .1 .0) made l (im .1) ν′ δ′ z))))
         (id⊢ 𝓤 _) $
         await ! tt $ pick ! (λ z. split ! $ move ! (1 ∷ []) $
@@ -447,7 +452,8 @@ unfolding code.routine tablesOf
 race-list-spec 𝓤 H 𝓜 𝓖 𝓡 =
     entered 𝓤 H (tripleOf 𝓤 H (𝓖 .A) f.signature (f.spec 𝓤 H (𝓖 .A) (𝓜 .mem) (𝓡 .run)))
     (tables 𝓤 H 𝓜 𝓡 code.env .C) (tables 𝓤 H 𝓜 𝓡 code.env .Λ) #race-list code.function (code.unfolded 𝓤 H 𝓜 𝓡)
-    (race-list-meets 𝓤 H (𝓖 .A) (givenOf 𝓤 H 𝓜 𝓖) (𝓜 .mem) (𝓡 .run) (tablesOf 𝓤 H 𝓜 (tables 𝓤 H 𝓜 𝓡 code.env))
+    (race-list-meets 𝓤 H (𝓖 .A) (givenOf 𝓤 H 𝓜 𝓖) (𝓜 .mem) (𝓡 .run)
+    (tablesOf 𝓤 H 𝓜 (tables 𝓤 H 𝓜 𝓡 code.env))
     (cited 𝓤 H (Plan 𝓤 H (𝓖 .A) (𝓜 .mem) (𝓡 .run)) 𝓜 𝓡 code.env #plan p-def.routine code.calls-races·plan
     (p-thm.met 𝓤 H 𝓜 𝓖 𝓡))
     (cited 𝓤 H (ToWrite 𝓤 H (𝓖 .A) (𝓜 .mem) (𝓡 .run)) 𝓜 𝓡 code.env #to-write n-def.routine code.calls-races·to-write

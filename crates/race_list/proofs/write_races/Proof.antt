@@ -276,9 +276,8 @@ module _ {M : Type 1} (𝓤 : URA M) (H : Heap 𝓤) (A : Atoms 𝓤) (W : Given
     word = tyInt w64
 
     abbrev En : Env 𝓤 H
-    En = (tyUnit, l₀) ∷ (t₁, l₁) ∷ (t₂, l₂) ∷ (t₃, l₃) ∷ (word, l₄) ∷ (T′.mir, l₅) ∷ (word, l₆) ∷ (tyBool, l₇)
-        ∷ (word, l₈)
-        ∷ (tyPtr, l₉)
+    En = (tyUnit, l₀) ∷ (t₁, l₁) ∷ (t₂, l₂) ∷ (t₃, l₃) ∷ (word, l₄)
+        ∷ (T′.mir, l₅) ∷ (word, l₆) ∷ (tyBool, l₇) ∷ (word, l₈) ∷ (tyPtr, l₉)
         ∷ []
 
     -- the invariant: the list with i races written, the open borrow, what the file and the table own, and the locals,
@@ -428,8 +427,8 @@ module _ {M : Type 1} (𝓤 : URA M) (H : Heap 𝓤) (A : Atoms 𝓤) (W : Given
       -- [the token; the tokens; table; count; file; obs; the borrow; _9; …]
       move ! (4 ∷ 2 ∷ []) $ join ! $ move ! (2 ∷ 0 ∷ []) $ join ! $ move ! (3 ∷ 4 ∷ 1 ∷ []) $
       opens-slice ! tt R old b o $
-      keep ! (0 ∷ 1 ∷ 2 ∷ 3 ∷ 4 ∷ 6 ∷ 7 ∷ 8 ∷ 9 ∷ 10 ∷ 11 ∷ 12 ∷ 13 ∷ 14 ∷ 15 ∷ 16 ∷ 17 ∷ 18 ∷ 19 ∷ 20 ∷ 21 ∷ 22 ∷ 23
-      ∷ 24 ∷ 25 ∷ []) $
+      keep ! (0 ∷ 1 ∷ 2 ∷ 3 ∷ 4 ∷ 6 ∷ 7 ∷ 8 ∷ 9 ∷ 10 ∷ 11 ∷ 12 ∷ 13
+      ∷ 14 ∷ 15 ∷ 16 ∷ 17 ∷ 18 ∷ 19 ∷ 20 ∷ 21 ∷ 22 ∷ 23 ∷ 24 ∷ 25 ∷ []) $
       first ! $ blocks ! $
       loops ! 𝓣 Nearer Nearer-wf (At 𝓣 known l₀ l₁ l₂ l₃ l₄ l₅ l₆ l₇ l₈ l₉)
       (turns 𝓣 known l₀ l₁ l₂ l₃ l₄ l₅ l₆ l₇ l₈ l₉)
@@ -474,6 +473,7 @@ unfolding code.routine tablesOf
 write-races-spec 𝓤 H 𝓜 𝓖 𝓡 =
     entered 𝓤 H (tripleOf 𝓤 H (𝓖 .A) f.signature (f.spec 𝓤 H (𝓖 .A) (𝓜 .mem) (𝓡 .run)))
     (tables 𝓤 H 𝓜 𝓡 code.env .C) (tables 𝓤 H 𝓜 𝓡 code.env .Λ) #write-races code.function (code.unfolded 𝓤 H 𝓜 𝓡)
-    (write-races-meets 𝓤 H (𝓖 .A) (givenOf 𝓤 H 𝓜 𝓖) (𝓜 .mem) (𝓡 .run) (tablesOf 𝓤 H 𝓜 (tables 𝓤 H 𝓜 𝓡 code.env))
+    (write-races-meets 𝓤 H (𝓖 .A) (givenOf 𝓤 H 𝓜 𝓖) (𝓜 .mem) (𝓡 .run)
+    (tablesOf 𝓤 H 𝓜 (tables 𝓤 H 𝓜 𝓡 code.env))
     (cited 𝓤 H (Next 𝓤 H (𝓖 .A) (𝓜 .mem) (𝓡 .run)) 𝓜 𝓡 code.env #next-race g-def.routine
     code.calls-race-search·next-race (g-thm.met 𝓤 H 𝓜 𝓖 𝓡)))
