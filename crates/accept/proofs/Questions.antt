@@ -17,6 +17,7 @@ use Rattle.model.specs.Computed.{largestRun, firstOutside}
 use Rattle.model.specs.LargestRuns.{LowestOutside}
 use Rattle.model.specs.Rule.{WorkersKnown}
 use Rattle.model.specs.Runs.{CompleteRunOf, NoCompleteRun}
+use Rattle.model.proofs.RuleLaws.{holds-workers}
 use Rattle.model.proofs.Outside.{outside-place, none-outside, complete-largest}
 use Rattle.accept.specs.Acceptance.{acceptance, AcceptedTrace}
 use Rattle.accept.specs.Refusals.{RefusedFile, by-reading, by-runs}
@@ -59,7 +60,7 @@ accepted-limits a = let h = accepted-holds a in (h .some, h .most, h .few)
 
 module _ (bytes : List ℕ) (t : Trace) (e : fileReading bytes ≡ reads t) where
   workers : WorkersKnown t
-  workers = record { known = λ k l. rw (trace-reads bytes t e) at (file-holds bytes t e .each k l .worker) }
+  workers = rw (trace-reads bytes t e) at (holds-workers (file-holds bytes t e))
 
   -- what question 10 makes of it: some operation is outside the largest run, or none is
   some-outside : firstOutside t < size t → acceptance bytes ≡ refused 10 (firstOutside t)

@@ -1,11 +1,12 @@
 -- The customer's demand 1, sentence by sentence, as theorems about what the calls answer and leave in lent memory, at
 -- any file bytes and lent memory: by the definitions that their contracts equal, or, of the calls that write, by their
--- promises (`TableCall`, `RunsCall`, `ListCall`, `RacesCall`). A sentence is stated of the calls that there are.
+-- promises (`TableCall`, `RunsCall`, `ListCall`, `RacesCall`, `CanonicalCall`). A sentence is stated of the calls that
+-- there are.
 use mathlib.Core.List.{List}
 use mathlib.Core.Logic.{_⊎_, _↔_, _≢_}
 use mathlib.Core.Path.{_≡_, refl, sym, _∙_}
 use native.Mathlib.Omega.{arith}
-use Prim.Native.Nat.{ℕ, _≤_}
+use Prim.Native.Nat.{ℕ, _<_, _≤_}
 use lib.ListN.{length}
 use Rattle.trace.specs.Reading.{refused, reads, fileReading}
 use Rattle.trace.specs.Refusals.{by-earlier, by-this}
@@ -52,7 +53,17 @@ use Rattle.races.proofs.Listed.{lists-length, lists-untouched}
 use Rattle.races.proofs.Questions.{races-comes-out, refused-races-number}
 use Rattle.race_list.specs.Listing.{ListCall}
 use Rattle.race_list.proofs.Lists.{list-length, list-untouched}
+use Rattle.canonical.specs.declared.CanonicalAnswer.{CanonicalAnswer}
+use Rattle.canonical.specs.declared.CanonicalAnswer.the-variants as canonical
+use Rattle.canonical.specs.CanonicalFile.{canonicalReading, canonicalAnswer, CanonicalCall}
+use Rattle.canonical.specs.CanonicalFile as canonical-file
+use Rattle.canonical.specs.Refusals.{RefusedOutput}
+use Rattle.canonical.proofs.Answers.{output-refused}
+use Rattle.canonical.proofs.Answers as canonical-calls
+use Rattle.canonical.proofs.Outputs as outputs
+use Rattle.canonical.proofs.Questions.{output-comes-out, refused-output-number}
 use Rattle.demands.specs.Outcomes.{AcceptOutcome, TableOutcome, OrderOutcome, RunsOutcome, RacesOutcome}
+use Rattle.demands.specs.Outcomes.{CanonicalOutcome}
 use Rattle.demands.proofs.Outcomes.{outcome-exactly}
 
 -- "Every entry takes all bytes and numbers, finishes, and either gives its result or a refusal number from document
@@ -247,6 +258,49 @@ module _ {bytes lent lower higher table-now lower-now higher-now : List ℕ} {an
 
   pub races-lengths : (length lower-now ≡ length lower) × (length higher-now ≡ length higher)
   races-lengths = rw (c .leaves-lower, c .leaves-higher) (lists-length bytes lent lower higher)
+
+-- For any call that keeps the tidy file's promise (`CanonicalCall`), with any bytes and any output:
+module _ {bytes lent now : List ℕ} {answer : CanonicalAnswer} (c : CanonicalCall bytes lent answer now) where
+  -- It answers the size of the accepted trace's tidy file where the output holds at least as many bytes as the file, or
+  -- the refusal by the first "no", and nothing else:
+  pub canonical-answers : (x : CanonicalAnswer) → (answer ≡ x) ↔ CanonicalOutcome bytes (length lent) x
+  unfolding canonicalAnswer
+  canonical-answers x =
+      rw (c .answers) (outcome-exactly canonical-file.answerOf (output-comes-out bytes (length lent)) x)
+
+  canonical-refusal : (q k : ℕ) → answer ≡ canonical.Refused q k → canonicalReading bytes (length lent) ≡ refused q k
+  canonical-refusal q k a = output-refused bytes lent q k .0 (sym (c .answers) ∙ a)
+
+  -- Its refusal numbers are questions 1 to 10 and 17:
+  pub canonical-numbers : (q k : ℕ) → answer ≡ canonical.Refused q k → ((1 ≤ q) × (q ≤ 10)) ⊎ (q ≡ 17)
+  canonical-numbers q k a =
+      refused-output-number (output-comes-out bytes (length lent) .refuses q k .0 (canonical-refusal q k a))
+
+  -- Of an accepted file, 17 refuses exactly an output of fewer bytes than the file has, and the place is 0:
+  pub canonical-no-room : {t : Trace} → AcceptedTrace bytes t → (k : ℕ)
+      → (answer ≡ canonical.Refused 17 k) ↔ ((length lent < length bytes) × (k ≡ 0))
+  canonical-no-room {t} h k = (
+    λ a. go (output-comes-out bytes (length lent) .refuses 17 k .0 (canonical-refusal 17 k a)),
+    λ p.
+        let no = output-comes-out bytes (length lent) .refuses 17 k .1 (by-this t h (p .0) refl (p .1)) in
+        c .answers ∙ output-refused bytes lent 17 k .1 no,
+  )
+    where
+      go : RefusedOutput bytes (length lent) 17 k → (length lent < length bytes) × (k ≡ 0)
+      go (by-earlier r) = absurd (omega (arith, refused-number r .1))
+      go (by-this u a l n z) = (l, z)
+
+  -- What reading the file refuses, it refuses alike, whatever output it is lent:
+  pub canonical-refuses-file : (q k : ℕ) → acceptAnswer bytes ≡ Refused q k → answer ≡ canonical.Refused q k
+  canonical-refuses-file q k a = c .answers ∙ sym (canonical-calls.call-refused bytes lent a .answers)
+
+  -- "A refusal leaves lent memory untouched":
+  pub canonical-untouched : (q k : ℕ) → answer ≡ canonical.Refused q k → now ≡ lent
+  canonical-untouched q k a = c .leaves ∙ sym (canonical-calls.call-by bytes lent (canonical-refusal q k a) .leaves)
+
+  -- Whatever is answered, the output is as long as it was:
+  pub canonical-output-length : length now ≡ length lent
+  canonical-output-length = rw (c .leaves) (outputs.after-length bytes lent)
 
 -- The beginning of a run refuses nothing: for any two lists and any two numbers it returns the part that document 01
 -- says, and only that; its numbers, at the start of the list that it is a part of:

@@ -1,6 +1,6 @@
 -- The customer's demand 2, sentence by sentence, as theorems about what the calls answer and leave in lent memory, at
 -- any file bytes and lent memory: by the definitions that their contracts equal, or, of the calls that write, by their
--- promises (`TableCall`, `ListCall`, `RacesCall`). A sentence is stated of the calls that there are.
+-- promises (`TableCall`, `ListCall`, `RacesCall`, `CanonicalCall`). A sentence is stated of the calls that there are.
 use mathlib.Core.List.{List}
 use mathlib.Core.Logic.{_↔_, _≢_, Iff·trans}
 use mathlib.Core.Path.{_≡_, sym, ap, _∙_}
@@ -10,9 +10,11 @@ use Prim.Native.Nat.{ℕ, _+_, _*_, _<_, _≤_}
 use lib.ListN.{length, getD, take}
 use Rattle.runs.specs.Membership.{_∈_, _∉_}
 use Rattle.runs.specs.Workers.{count}
+use Rattle.trace.specs.Form.{base}
 use Rattle.trace.specs.Reading.{reads, fileReading}
 use Rattle.trace.specs.Refusals.{Refusal, one-to-four, five-to-nine}
 use Rattle.trace.specs.Trace.{Trace, size, workerOf, rank}
+use Rattle.trace.specs.Writing.{Bytes}
 use Rattle.trace.proofs.Refusals.{file-refused-first, file-refused}
 use Rattle.model.specs.LargestRuns.{MaximalExecution, LargestRun, LowestOutside}
 use Rattle.model.specs.Orders.{MustPrecedeIn}
@@ -24,7 +26,7 @@ use Rattle.accept.specs.Refusals.{RefusedFile, by-reading, by-runs}
 use Rattle.accept.specs.declared.AcceptAnswer.the-variants.{Accepted, Refused}
 use Rattle.accept.proofs.Answers.{answer-means, accepted-answer}
 use Rattle.accept.proofs.Questions.{refused-place, accepted-complete, refused-incomplete, refused-file}
-use Rattle.accept.proofs.Questions.{accepted-workers}
+use Rattle.accept.proofs.Questions.{accepted-trace, accepted-workers}
 use Rattle.order_table.specs.declared.TableAnswer.{TableAnswer}
 use Rattle.order_table.specs.Refusals.{AcceptedTable}
 use Rattle.order_table.specs.Table.{TableCall}
@@ -41,6 +43,16 @@ use Rattle.races.proofs.Answers.{races-listed, races-short}
 use Rattle.races.proofs.Listed.{lists-hold, lists-past}
 use Rattle.race_list.specs.Listing.{ListCall}
 use Rattle.race_list.proofs.Lists.{list-holds, list-past}
+use Rattle.canonical.specs.declared.CanonicalAnswer.{CanonicalAnswer}
+use Rattle.canonical.specs.declared.CanonicalAnswer.the-variants.{Written}
+use Rattle.canonical.specs.CanonicalFile.{canonicalTrace, SameWorkers, canonicalBytes, CanonicalCall}
+use Rattle.canonical.specs.Refusals.{AcceptedOutput}
+use Rattle.canonical.proofs.ByWorker.{canonical-size, canonical-same-workers, same-canonical}
+use Rattle.canonical.proofs.Outputs.{after-canonical, same-bytes}
+use Rattle.canonical.proofs.Outputs as outputs
+use Rattle.canonical.proofs.ReadBack.{canonical-file-length, canonical-accepted}
+use Rattle.demands.specs.Outcomes.{gives}
+use Rattle.demands.proofs.Demand1.{canonical-answers}
 
 -- "The table [is that] of the maximal valid executions of Wisconsin report 1084."
 
@@ -205,3 +217,64 @@ refused-ten-only bytes k a = go (refused-file bytes 10 k .0 (answer-means bytes 
         not-by-reading (one-to-four h l z) = omega arith
         not-by-reading (five-to-nine h l z) = omega arith
     go (by-runs t e n o) = (t, e, refused-ten-exactly bytes t e .0 (k, a))
+
+-- "A tidied trace reads back as the same workers' operations, while two traces with the same worker count and the same
+-- operations in each worker's order tidy to the same bytes."
+
+-- `Bytes` says of a file that its elements are bytes, as those of every `&[u8]` are; a length of more than two bytes
+-- would not be read back.
+
+-- For an accepted file, an output that holds at least as many bytes, and what the call (`CanonicalCall`) leaves in it:
+module _ {bytes : List ℕ} {t : Trace} (h : AcceptedTrace bytes t) {lent now : List ℕ} {answer : CanonicalAnswer}
+    (l : length bytes ≤ length lent) (c : CanonicalCall bytes lent answer now) where
+  output : AcceptedOutput bytes (length lent) t
+  output = record { accepted = h; output-holds = l }
+
+  -- The first bytes, as many as the file has, are the tidy file, "the header, then worker 0's operations in order, then
+  -- worker 1's, and so on", and the answer is how many:
+  pub canonical-holds : take (length bytes) now ≡ canonicalBytes base t
+  canonical-holds = rw (c .leaves) (after-canonical lent output)
+
+  pub canonical-count : answer ≡ Written (length bytes)
+  canonical-count = rw (← canonical-file-length h) (canonical-answers c _ .1 (gives output))
+
+  -- What lies behind them is as before:
+  pub canonical-past : (i : ℕ) → length bytes ≤ i → getD now i 0 ≡ getD lent i 0
+  canonical-past i j = rw (c .leaves) (outputs.after-past lent output i j)
+
+  -- They are accepted, and read as a trace of the same workers' operations, and of as many:
+  pub canonical-reads-back : Bytes bytes
+      → (u : Trace) × AcceptedTrace (take (length bytes) now) u × SameWorkers u t × (size u ≡ size t)
+  canonical-reads-back b =
+      let accepted = rw (← canonical-holds) at (canonical-accepted b h) in
+      (canonicalTrace t, accepted, canonical-same-workers t, canonical-size (accepted-workers h))
+
+-- Two accepted files tidy to the same bytes if they have the same workers' operations,
+module _ {f g : List ℕ} {t u : Trace} (h : AcceptedTrace f t) (k : AcceptedTrace g u)
+    {f-lent f-now g-lent g-now : List ℕ} {f-answer g-answer : CanonicalAnswer}
+    (l : length f ≤ length f-lent) (m : length g ≤ length g-lent)
+    (c : CanonicalCall f f-lent f-answer f-now) (d : CanonicalCall g g-lent g-answer g-now) where
+  pub canonical-same-bytes : SameWorkers t u → take (length f) f-now ≡ take (length g) g-now
+  canonical-same-bytes s = canonical-holds h l c ∙ same-bytes base s ∙ sym (canonical-holds k m d)
+
+  -- and only then:
+  pub canonical-same-only : Bytes f → Bytes g → take (length f) f-now ≡ take (length g) g-now → SameWorkers t u
+  canonical-same-only a b e =
+      let same : canonicalBytes base t ≡ canonicalBytes base u
+      = sym (canonical-holds h l c) ∙ e ∙ canonical-holds k m d in
+      let accepted = rw same at (canonical-accepted a h) in
+      same-canonical (sym (accepted-trace accepted) ∙ accepted-trace (canonical-accepted b k))
+
+-- Tidying a tidied file gives it back:
+pub canonical-again : {bytes : List ℕ} {t : Trace} → AcceptedTrace bytes t → Bytes bytes
+    → {lent now again-lent again-now : List ℕ} {answer again : CanonicalAnswer} → length bytes ≤ length lent
+    → CanonicalCall bytes lent answer now → length bytes ≤ length again-lent
+    → CanonicalCall (take (length bytes) now) again-lent again again-now
+    → take (length bytes) again-now ≡ take (length bytes) now
+canonical-again {bytes} {t} h b {now = now} l c m d =
+    let tidied = canonical-holds h l c in
+    let accepted : AcceptedTrace (take (length bytes) now) (canonicalTrace t) = rw tidied (canonical-accepted b h) in
+    let long : length (take (length bytes) now) ≡ length bytes = rw tidied (canonical-file-length h) in
+    rw long at (canonical-holds accepted (omega (arith, long, m)) d)
+    ∙ same-bytes base (canonical-same-workers t)
+    ∙ sym tidied

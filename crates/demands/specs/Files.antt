@@ -1,4 +1,4 @@
--- The example files of document 01, as bytes. Trace A's is in the crate `trace`.
+-- The example files of document 01, as bytes, and one file more, for the tidy file. Trace A's is in the crate `trace`.
 -- Follows: document 01, "Trace file" and "Examples"; worker:operation in file order. Starred computes what each file
 -- reads as.
 -- Differs: nowhere.
@@ -44,3 +44,8 @@ readBehindWrite = headed 2 2 (writeRecord 0 10 5 (readRecord 1 15 1 []))
 
 abbrev pub readInWrite : List ℕ
 readInWrite = headed 2 2 (writeRecord 0 10 5 (readRecord 1 14 1 []))
+
+-- no example of document 01: 2:Write 66,051 len 258; 0:Post 1; 2:Post 2; 0:Wait 1, of three workers. Its trace, and its
+-- tidy file, are the example of the crate `canonical`.
+abbrev pub mixed : List ℕ
+mixed = headed 3 4 (withMark 2 4 3 2 1 0 2 1 (postRecord 0 1 (postRecord 2 2 (waitRecord 0 1 []))))

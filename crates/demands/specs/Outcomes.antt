@@ -3,6 +3,8 @@
 -- Differs: nowhere.
 use mathlib.Core.List.{List}
 use Prim.Native.Nat.{ℕ}
+use lib.ListN.{length}
+use Rattle.trace.specs.Form.{base}
 use Rattle.trace.specs.Trace.{Trace, size}
 use Rattle.model.specs.Computed.{pairOrder}
 use Rattle.accept.specs.declared.AcceptAnswer.{AcceptAnswer}
@@ -22,6 +24,10 @@ use Rattle.race_search.specs.RaceList.{raceCount}
 use Rattle.races.specs.declared.RacesAnswer.{RacesAnswer}
 use Rattle.races.specs.declared.RacesAnswer.the-variants as races
 use Rattle.races.specs.Refusals.{AcceptedRaces, RefusedRaces}
+use Rattle.canonical.specs.declared.CanonicalAnswer.{CanonicalAnswer}
+use Rattle.canonical.specs.declared.CanonicalAnswer.the-variants as canonical
+use Rattle.canonical.specs.CanonicalFile.{canonicalBytes}
+use Rattle.canonical.specs.Refusals.{AcceptedOutput, RefusedOutput}
 
 -- of any call: its result for a trace that passes the questions, or the refusal by the first "no" among them
 pub data Outcome {X : Type 0} (result : Trace → X) (refusal : ℕ → ℕ → X)
@@ -64,3 +70,12 @@ RacesOutcome bytes numbers room =
     races.Refused
     (AcceptedRaces bytes numbers room)
     (RefusedRaces bytes numbers room)
+
+-- the tidy file, where the output holds `room` bytes: its size, or the refusal by questions 1 to 10 and 17
+abbrev pub CanonicalOutcome : List ℕ → ℕ → CanonicalAnswer → Type 0
+CanonicalOutcome bytes room =
+    Outcome
+    (λ t. canonical.Written (length (canonicalBytes base t)))
+    canonical.Refused
+    (AcceptedOutput bytes room)
+    (RefusedOutput bytes room)

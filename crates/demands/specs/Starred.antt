@@ -1,8 +1,8 @@
 -- The starred examples of document 01, one list, computed from file bytes by the definitions that the calls' contracts
 -- cite.
 -- Follows: document 01, "Examples". A and B, whose rows, orders, runs and races are starred there, are accepted.
--- Differs: nowhere. Beside the starred ones, marked *, it has refusals by questions 10 to 16, and lent memory that just
--- fits, is longer, or is too short.
+-- Differs: nowhere. Beside the starred ones, marked *, it has tidy files, refusals by questions 10 to 17, and lent
+-- memory that just fits, is longer, or is too short.
 use mathlib.Core.List.{List, [], _∷_, _++_}
 use mathlib.Core.Path.{_≡_, refl}
 use Prim.Native.Nat.{ℕ, _*_}
@@ -10,11 +10,12 @@ use lib.IntN.{pos, negsuc}
 use lib.ListN.{take, drop, replicate}
 use Rattle.trace.specs.declared.Operation.{Operation}
 use Rattle.trace.specs.Examples.{fileA, traceA}
-use Rattle.trace.specs.LittleEndian.{value}
+use Rattle.trace.specs.LittleEndian.{value, digits}
 use Rattle.trace.specs.Questions.{operationIn, marked, ranked, isHeader, workersFit, headerQuestion, kindKnown}
 use Rattle.trace.specs.Questions.{eventFits, cellsFit, recordQuestion}
 use Rattle.trace.specs.Reading.{reads, readingFrom, reading, fileReading}
 use Rattle.trace.specs.Trace.{Trace, ofWorker, isSync, isAccess}
+use Rattle.trace.specs.Writing.{recordBytes, recordsBytes, bytesOf}
 use Rattle.model.specs.Computed.{largestRun, largestRunWithout, firstOutside, row, mustPrecedeIn, pairOrder}
 use Rattle.model.specs.Computed.{heldBackRun}
 use Rattle.model.specs.Examples.{post, wait, readCell, writeCell}
@@ -37,7 +38,12 @@ use Rattle.races.specs.declared.RacesAnswer.the-variants.{Listed}
 use Rattle.races.specs.declared.RacesAnswer.the-variants as races
 use Rattle.races.specs.Races.{racesReading, racesAnswer, racesListed, lowerAfter, higherAfter}
 use Rattle.race_list.specs.Listing.{listAfter}
+use Rattle.canonical.specs.declared.CanonicalAnswer.the-variants.{Written}
+use Rattle.canonical.specs.declared.CanonicalAnswer.the-variants as canonical
+use Rattle.canonical.specs.Examples.{interleaved, canonicalFile}
+use Rattle.canonical.specs.CanonicalFile.{byWorker, canonicalBytes, canonicalReading, canonicalAnswer, outputAfter}
 use Rattle.demands.specs.Files.{fileB, fileC, waitThenPost, postThenWait, fileE, readBehindWrite, readInWrite}
+use Rattle.demands.specs.Files.{mixed}
 
 -- a trace of p workers
 abbrev pub traceWith : ℕ → List Operation → Trace
@@ -47,7 +53,7 @@ traceWith p l = record { workers = p; operations = l }
 abbrev pub write10len5 : Operation
 write10len5 = record { worker = 0; kind = 4; number = 10; length = 5 }
 
--- the example files are those of document 01
+-- the example files are those of document 01, and one more
 pub files : (fileReading fileA ≡ reads traceA)
     × (fileReading fileB ≡ reads (traceWith 3 (writeCell 0 7 ∷ post 0 1 ∷ post 1 1 ∷ wait 2 1 ∷ readCell 2 7 ∷ [])))
     × (fileReading fileC ≡ reads (traceWith 2 (wait 0 1 ∷ post 0 2 ∷ wait 1 2 ∷ post 1 1 ∷ [])))
@@ -56,9 +62,10 @@ pub files : (fileReading fileA ≡ reads traceA)
     × (fileReading fileE ≡ reads (traceWith 1 []))
     × (fileReading readBehindWrite ≡ reads (traceWith 2 (write10len5 ∷ readCell 1 15 ∷ [])))
     × (fileReading readInWrite ≡ reads (traceWith 2 (write10len5 ∷ readCell 1 14 ∷ [])))
+    × (fileReading mixed ≡ reads interleaved)
 unfolding value operationIn marked ranked isHeader workersFit headerQuestion ofWorker isSync isAccess kindKnown
     eventFits cellsFit recordQuestion readingFrom reading fileReading
-files = (refl, refl, refl, refl, refl, refl, refl, refl)
+files = (refl, refl, refl, refl, refl, refl, refl, refl, refl)
 
 -- A's seven rows
 abbrev pub rowsA : List ℕ
@@ -155,12 +162,35 @@ pub starred :
     × (racesAnswer readBehindWrite 4 0 ≡ Listed 2 2 0)
     × (racesAnswer readInWrite 4 1 ≡ Listed 2 2 1)
     × (racesListed readInWrite 4 1 ≡ pair 0 1 ∷ [])
+    -- the tidy file, in an output of just as many bytes; in a longer one; of a file that is tidy
+    × (canonicalAnswer mixed (nines 50) ≡ Written 50)
+    × (outputAfter mixed (nines 50) ≡ canonicalFile)
+    × (outputAfter mixed (nines 52) ≡ canonicalFile ++ nines 2)
+    × (outputAfter canonicalFile (nines 50) ≡ canonicalFile)
+    -- too short an output; C is refused first; E has no operations
+    × (canonicalAnswer mixed (nines 49) ≡ canonical.Refused 17 0)
+    × (outputAfter mixed (nines 49) ≡ nines 49)
+    × (canonicalAnswer fileC [] ≡ canonical.Refused 10 0)
+    × (outputAfter fileC (nines 50) ≡ nines 50)
+    × (canonicalAnswer fileE (nines 10) ≡ Written 10)
+    × (outputAfter fileE (nines 10) ≡ fileE)
 unfolding value operationIn marked ranked isHeader workersFit headerQuestion ofWorker isSync isAccess kindKnown
     eventFits cellsFit recordQuestion readingFrom reading fileReading largestRun firstOutside acceptance acceptAnswer
     largestRunWithout row rows tableReading tableAnswer tableAfter mustPrecedeIn pairOrder heldBackRun pairReading
     orderAnswer runsReading runsAnswer firstAfter secondAfter firstIndex beginningLength prefixOf overlap clash isRace
-    racesOf racesBelow raceList racesReading racesAnswer racesListed lowerAfter higherAfter
+    racesOf racesBelow raceList racesReading racesAnswer racesListed lowerAfter higherAfter digits recordBytes
+    recordsBytes bytesOf byWorker canonicalBytes canonicalReading canonicalAnswer outputAfter
 starred = (
+  refl,
+  refl,
+  refl,
+  refl,
+  refl,
+  refl,
+  refl,
+  refl,
+  refl,
+  refl,
   refl,
   refl,
   refl,

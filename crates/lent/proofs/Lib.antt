@@ -1,2 +1,3 @@
--- Writing lent memory: step by step, and what is in it afterwards.
+-- Writing: lent memory, written step by step, and what is in it afterwards. Left: how long it is after any call.
 pub mod Writing
+pub mod Left

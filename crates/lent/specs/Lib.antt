@@ -1,3 +1,4 @@
--- What a call leaves in lent memory that it writes; a line that has to be believed. What is in the memory then is shown
--- in proofs/.
+-- What a call leaves in lent memory that it writes; a few lines that have to be believed. What is in the memory then is
+-- shown in proofs/.
 pub mod Written
+pub mod Left

@@ -6,3 +6,4 @@ pub mod Outside
 pub mod SharedOrder
 pub mod TableRows
 pub mod HeldBack
+pub mod Renumbering

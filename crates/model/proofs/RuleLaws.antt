@@ -1,6 +1,8 @@
--- Laws of the rule of document 01. In order: it is monotone; it keeps program order; the order of its operations.
+-- Laws of the rule of document 01. In order: it is monotone; it keeps program order; the order of its operations;
+-- the workers of a file's trace are known.
 -- A further condition on runs is one more test in `rule` and one more line in `rule-grows`.
 use mathlib.Core.Bool.{not}
+use mathlib.Core.List.{List}
 use Prim.Native.Nat.{ℕ}
 use Rattle.runs.specs.Rule.{Monotone}
 use Rattle.runs.specs.Greedy.{Preference}
@@ -9,6 +11,8 @@ use Rattle.runs.proofs.Booleans.{and-left}
 use Rattle.runs.proofs.CanonicalOrder.{canonical-preference, canonical-ascending}
 use Rattle.runs.proofs.MonotoneTests.{Grows, grows-rule, grows-fixed, grows-and, grows-or, grows-done, grows-turn}
 use Rattle.runs.proofs.ProgramOrder.{turn-in-turn}
+use Rattle.trace.specs.Premises.{HoldsTrace}
+use Rattle.trace.specs.Reading.{traceOf}
 use Rattle.trace.specs.Trace.{Trace, size, operation, workerOf, isWait}
 use Rattle.model.specs.Rule.{posts, unblocked, rule, order, WorkersKnown}
 
@@ -37,3 +41,9 @@ module _ (t : Trace) where
 
 pub order-preference : {t : Trace} → WorkersKnown t → Preference (size t) (order t)
 order-preference {t} w = canonical-preference (workerOf t) (w .known)
+
+-- ---- a file's workers
+
+-- the trace of a file that questions 1 to 9 let pass has known workers
+pub holds-workers : {bytes : List ℕ} {p n : ℕ} → HoldsTrace bytes p n → WorkersKnown (traceOf bytes)
+holds-workers h = record { known = λ k l. rw (h .workers) (h .each k (rw (h .count) at l) .worker) }

@@ -15,9 +15,10 @@ use Rattle.accept.specs.declared.AcceptAnswer.the-variants as accept
 use Rattle.accept.specs.Acceptance.{AcceptedTrace, acceptAnswer}
 use Rattle.accept.proofs.Answers.{answer-means}
 use Rattle.accept.proofs.Questions.{accepted-trace, accepted-holds, refused-file}
+use Rattle.lent.specs.Left.{leftBy}
 use Rattle.lent.specs.Written.{writtenOver}
 use Rattle.order_table.specs.declared.TableAnswer.the-variants.{Filled, Refused}
-use Rattle.order_table.specs.Table.{orderTable, tableReading, answerOf, leftBy, tableAnswer, tableAfter}
+use Rattle.order_table.specs.Table.{orderTable, tableReading, answerOf, tableAnswer, tableAfter}
 use Rattle.order_table.specs.Table.{TableCall}
 use Rattle.order_table.specs.Refusals.{AcceptedTable, RefusedTable}
 use Rattle.order_table.proofs.Questions.{table-comes-out}
@@ -25,7 +26,7 @@ use Rattle.order_table.proofs.Questions.{table-comes-out}
 -- ---- by the outcome of the questions
 
 pub call-by : (bytes lent : List ℕ) {r : Reading} → tableReading bytes (length lent) ≡ r
-    → TableCall bytes lent (answerOf r) (leftBy r lent)
+    → TableCall bytes lent (answerOf r) (leftBy orderTable r lent)
 unfolding tableAnswer tableAfter
 call-by bytes lent e = record { answers = rw e; leaves = rw e }
 

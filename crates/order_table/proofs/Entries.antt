@@ -2,14 +2,13 @@
 -- success, the row of an operation, what its entries count and tell, and what lies behind the rows.
 use mathlib.Core.List.{List, _++_, append-assoc}
 use mathlib.Core.Logic.{_⊎_, inl, inr, _≢_, _↔_}
-use mathlib.Core.Path.{_≡_, refl, sym, ap, _∙_}
+use mathlib.Core.Path.{_≡_, sym, ap, _∙_}
 use native.Mathlib.Omega.{arith}
 use Prim.Native.Nat.{ℕ, zero, suc, _+_, _*_, _<_, _≤_}
 use lib.ListN.{length, getD, take, drop}
 use lib.Seq.{take-at, drop-at, getD-take, getD-drop}
 use Rattle.runs.specs.Workers.{count}
 use Rattle.runs.proofs.Booleans.{equal?}
-use Rattle.trace.specs.Reading.{Reading, refused, reads}
 use Rattle.trace.specs.Trace.{Trace, size, workerOf, rank}
 use Rattle.model.specs.Computed.{row}
 use Rattle.model.specs.LargestRuns.{MaximalExecution}
@@ -18,7 +17,8 @@ use Rattle.model.specs.Rule.{WorkersKnown}
 use Rattle.model.proofs.TableRows.{row-length, row-execution, row-must-precede}
 use Rattle.accept.proofs.Questions.{accepted-workers}
 use Rattle.lent.specs.Written.{writtenOver}
-use Rattle.lent.proofs.Writing.{written-length, written-past}
+use Rattle.lent.proofs.Left.{left-length}
+use Rattle.lent.proofs.Writing.{written-past}
 use Rattle.order_table.specs.Refusals.{AcceptedTable}
 use Rattle.order_table.specs.Table.{rows, orderTable, tableReading, tableAfter}
 use Rattle.order_table.proofs.Questions.{table-comes-out}
@@ -45,13 +45,10 @@ rows-part t (suc m) k rest l = rw append-assoc (go (equal? k m) (rows-part t m k
 -- ---- after any call
 
 pub after-length : (bytes lent : List ℕ) → length (tableAfter bytes lent) ≡ length lent
-after-length bytes lent = go (tableReading bytes (length lent)) refl
-  where
-    go : (r : Reading) → tableReading bytes (length lent) ≡ r → length (tableAfter bytes lent) ≡ length lent
-    go (refused q k) e = rw (← call-by bytes lent e .leaves)
-    go (reads t) e =
-        let fits = table-comes-out bytes (length lent) .passes t .0 e .table-holds in
-        rw (← call-by bytes lent e .leaves) (written-length (orderTable t) lent (rw (rows-length t (size t)) fits))
+unfolding tableAfter
+after-length bytes lent =
+    left-length orderTable (tableReading bytes (length lent)) (table-comes-out bytes (length lent)) lent
+    (λ t f. rw (rows-length t (size t)) (f .table-holds))
 
 -- ---- after success
 

@@ -12,7 +12,7 @@ use Rattle.trace.specs.Reading.{Reading, refused, reads, thenAsk, noPlace}
 use Rattle.trace.specs.Trace.{Trace, size}
 use Rattle.model.specs.Computed.{row}
 use Rattle.accept.specs.Acceptance.{acceptance}
-use Rattle.lent.specs.Written.{writtenOver}
+use Rattle.lent.specs.Left.{leftBy}
 use Rattle.order_table.specs.declared.TableAnswer.{TableAnswer}
 use Rattle.order_table.specs.declared.TableAnswer.the-variants.{Filled, Refused}
 
@@ -42,14 +42,10 @@ answerOf (reads t) = Filled (t .workers) (size t)
 unfoldable pub tableAnswer : List ℕ → List ℕ → TableAnswer
 tableAnswer bytes lent = answerOf (tableReading bytes (length lent))
 
--- "Refused calls write nothing"; "everything past the last element written is as before"
-abbrev pub leftBy : Reading → List ℕ → List ℕ
-leftBy (refused q k) lent = lent
-leftBy (reads t) lent = writtenOver (orderTable t) lent
-
--- what the call leaves in the lent table
+-- what the call leaves in the lent table: "Refused calls write nothing"; "everything past the last element written is
+-- as before"
 unfoldable pub tableAfter : List ℕ → List ℕ → List ℕ
-tableAfter bytes lent = leftBy (tableReading bytes (length lent)) lent
+tableAfter bytes lent = leftBy orderTable (tableReading bytes (length lent)) lent
 
 -- the call's promise, for any bytes and any lent table: its answer, and what is in the table afterwards
 pub record TableCall (bytes lent : List ℕ) (answer : TableAnswer) (now : List ℕ) : Type 0 where

@@ -1,7 +1,9 @@
 -- Laws of "stands before". In order: at the front of a list; both stand in it; across `_++_`; of two different
--- operations of a list one stands before the other, and where no operation stands twice not both; what stands before x.
+-- operations of a list one stands before the other, and where no operation stands twice not both; what stands before
+-- x; renumbered operations.
 use mathlib.Core.Path.{_≡_, refl, sym, _∙_, ap}
 use mathlib.Core.List.{List, [], _∷_, _++_, List·Memᴰ·head, List·Memᴰ·tail, Memᴰ·append-right}
+use mathlib.Core.List.{map, map-append, Memᴰ·map}
 use mathlib.Core.Logic.{_⊎_, inl, inr, _≢_}
 use Prim.Native.Nat.{ℕ}
 use Rattle.runs.specs.Membership.{_∈_, Different, empty, fresh}
@@ -72,3 +74,13 @@ before-front u v {x = x} {y = y} e d p = go u (rw e at d) (rw e at p)
 -- and all of that does
 pub front-before : (u v : List ℕ) {r : List ℕ} {x y : ℕ} → r ≡ u ++ x ∷ v → y ∈ u → StandsBefore y x r
 front-before u v e m = rw e (before-append m here)
+
+-- renumbered operations stand as they stood
+pub before-map : (f : ℕ → ℕ) {a b : ℕ} {l : List ℕ} → StandsBefore a b l → StandsBefore (f a) (f b) (map f l)
+before-map f {a} p =
+    record {
+      before = map f (p .before);
+      after = map f (p .after);
+      split = ap (map f) (p .split) ∙ map-append f (p .before) (a ∷ p .after);
+      later = Memᴰ·map f (p .later);
+    }

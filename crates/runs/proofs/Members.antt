@@ -1,14 +1,14 @@
 -- Laws of membership. In order: the test `mem`; the tests of all and of some; `_⊆_`; what is done; a list that is
--- split. Not here: membership in `_++_`, which is the library's (`Memᴰ·append-left`, `Memᴰ·append-right`,
--- `List·Memᴰ·append-cases` of mathlib.Core.List).
-use mathlib.Core.Path.{_≡_, refl, ap}
+-- split; renumbered operations. Not here: membership in `_++_` and in `map`, which is the library's
+-- (`Memᴰ·append-left`, `Memᴰ·append-right`, `List·Memᴰ·append-cases`, `Memᴰ·map`, `Memᴰ·of-map` of mathlib.Core.List).
+use mathlib.Core.Path.{_≡_, refl, sym, ap, subst}
 use mathlib.Core.Bool.{Bool}
 use mathlib.Core.List.{List, [], _∷_, _++_, List·Memᴰ·head, List·Memᴰ·tail, Memᴰ·append-left, Memᴰ·append-right}
-use mathlib.Core.List.{List·Memᴰ·append-cases, List·Memᴰ·eq-of-singleton}
+use mathlib.Core.List.{List·Memᴰ·append-cases, List·Memᴰ·eq-of-singleton, map, Memᴰ·of-map}
 use mathlib.Core.Logic.{_⊎_, inl, inr, _↔_, _≢_}
 use Prim.Native.Nat.{ℕ}
 use lib.Dec.{T, eqb, eqb→eq, eqb-refl, T-not}
-use Rattle.runs.specs.Membership.{_∈_, _∉_, _⊆_, SameOperations, Different, fresh, mem, allOf, anyOf}
+use Rattle.runs.specs.Membership.{_∈_, _∉_, _⊆_, SameOperations, Different, empty, fresh, mem, allOf, anyOf}
 use Rattle.runs.specs.Steps.{done}
 use Rattle.runs.proofs.Booleans.{booleans, and-left, and-right, and-intro, or-cases, or-left, or-right, decide}
 
@@ -151,3 +151,19 @@ in-split (List·Memᴰ·tail {x = y} m) = let t = in-split m in (y ∷ t .0, t .
 -- in the second part, if not in the first
 pub in-rest : {x : ℕ} (r : List ℕ) {s : List ℕ} → x ∈ r ++ s → x ∉ r → x ∈ s
 in-rest r m n = elim (List·Memᴰ·append-cases r m) [ inl h ↦ absurd (n h) | inr h ↦ h ]
+
+-- ---- renumbered operations
+
+-- what holds of each operation's new number
+pub map-each : (f : ℕ → ℕ) {l : List ℕ} (P : ℕ → Type 0) → ((x : ℕ) → x ∈ l → P (f x))
+    → {y : ℕ} → y ∈ map f l → P y
+map-each f {l} P g m = let (x, i, e) = Memᴰ·of-map f l m in subst P e (g x i)
+
+-- different operations that get different numbers
+pub different-map : (f : ℕ → ℕ) {l : List ℕ} → Different l → ((x y : ℕ) → x ∈ l → y ∈ l → f x ≡ f y → x ≡ y)
+    → Different (map f l)
+different-map f empty g = empty
+different-map f (fresh {x = x} {l = l} n d) g = fresh new (different-map f d (λ y z i j. g y z (there i) (there j)))
+  where
+    new : f x ∉ map f l
+    new m = let (y, i, e) = Memᴰ·of-map f l m in n (rw (g x y here (there i) (sym e)) i)

@@ -52,6 +52,14 @@ file-holds bytes t e =
       each = λ k l. rw s (reads-admitted base bytes t e k l);
     }
 
+-- how long it is; in any form, too
+pub reads-size : (f : Form) (bytes : List ℕ) (t : Trace) → reading f bytes ≡ reads t → length bytes ≡ start f (size t)
+reads-size f bytes t e = rw (reads-count f bytes t e) at (header-says f bytes t e .whole)
+
+pub file-size : {bytes : List ℕ} {p n : ℕ} → HoldsTrace bytes p n → length bytes ≡ start base n
+unfolding fileReading
+file-size {bytes} h = rw (h .count) at (reads-size base bytes (traceOf bytes) (h .trace))
+
 -- n × p is at most 16,384
 pub few-numbers : {bytes : List ℕ} {p n : ℕ} → HoldsTrace bytes p n → n * p ≤ 16384
 few-numbers h = mul-le-mul {n₂ = 1024} {m₂ = 16} (h .few) (h .most)
@@ -93,7 +101,7 @@ pub record RecordOf (bytes : List ℕ) (k : ℕ) : Type 0 where
 pub reads-inside : (f : Form) (bytes : List ℕ) (t : Trace) → reading f bytes ≡ reads t → (k : ℕ) → k < size t
     → start f k + recordSize f ≤ length bytes
 reads-inside f bytes t e k h =
-    omega (arith, start-inside f k (size t) h, rw (reads-count f bytes t e) at (header-says f bytes t e .whole))
+    omega (arith, start-inside f k (size t) h, reads-size f bytes t e)
 
 pub record-of : (bytes : List ℕ) (k : ℕ) → k < size (traceOf bytes) → RecordOf bytes k
 unfolding fileReading

@@ -1,13 +1,15 @@
 -- A worker's operations in a trace, and the numbers of its operations, which the theory of runs speaks of. In order:
--- two lists one after the other; the first k operations; all of them; the rank.
+-- two lists one after the other; among a worker's operations; the first k operations; all of them; the rank.
 use mathlib.Core.Bool.{Bool, true, false, cond}
 use mathlib.Core.List.{List, [], _∷_, _++_, map, map-append}
-use mathlib.Core.Path.{_≡_, refl, ap, _∙_}
+use mathlib.Core.Logic.{_≢_}
+use mathlib.Core.Path.{_≡_, refl, sym, ap, _∙_}
 use native.Mathlib.Omega.{arith}
 use Prim.Native.Nat.{ℕ, zero, suc, _≤_}
 use lib.Dec.{eqb}
 use lib.ListN.{length, take, length-map}
 use lib.Seq.{take-suc, take-length}
+use borrow.Author.Tests.{eqb-true, ne-eqb}
 use Rattle.runs.specs.Membership.{upTo}
 use Rattle.runs.specs.Workers.{count, earlier, operationsOf}
 use Rattle.runs.proofs.Places.{operationsOf-length}
@@ -29,6 +31,28 @@ ofWorker-append q (o ∷ a) b = go (eqb (o .worker) q) (ofWorker-append q a b)
         ≡ cond t (o ∷ ofWorker q a) (ofWorker q a) ++ ofWorker q b
     go true e = ap (λ (l : List Operation). o ∷ l) e
     go false e = e
+
+-- among worker q's operations, all are worker q's
+pub ofWorker-own : (q : ℕ) (os : List Operation) → ofWorker q (ofWorker q os) ≡ ofWorker q os
+unfolding ofWorker
+ofWorker-own q [] = refl
+ofWorker-own q (o ∷ os) = go (eqb (o .worker) q) refl (ofWorker-own q os)
+  where
+    go : (b : Bool) → eqb (o .worker) q ≡ b → ofWorker q (ofWorker q os) ≡ ofWorker q os
+        → ofWorker q (cond b (o ∷ ofWorker q os) (ofWorker q os)) ≡ cond b (o ∷ ofWorker q os) (ofWorker q os)
+    go true e i = rw (e, i)
+    go false e i = i
+
+-- and among another worker's, none
+pub ofWorker-other : (q r : ℕ) (os : List Operation) → r ≢ q → ofWorker q (ofWorker r os) ≡ []
+unfolding ofWorker
+ofWorker-other q r [] d = refl
+ofWorker-other q r (o ∷ os) d = go (eqb (o .worker) r) refl (ofWorker-other q r os d)
+  where
+    go : (b : Bool) → eqb (o .worker) r ≡ b → ofWorker q (ofWorker r os) ≡ []
+        → ofWorker q (cond b (o ∷ ofWorker r os) (ofWorker r os)) ≡ []
+    go true e i = rw (ne-eqb (o .worker) q (λ f. d (sym (eqb-true (o .worker) r e) ∙ f)), i)
+    go false e i = i
 
 module _ (t : Trace) (q : ℕ) where
   -- worker q's among the first k operations are those with its numbers below k

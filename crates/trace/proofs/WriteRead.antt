@@ -104,6 +104,19 @@ length-records f before (o ∷ os) =
     simp (length-append, length-record)
     (omega (arith, length-records f (before ++ o ∷ []) os, mul-suc (recordSize f) (length os)))
 
+-- the records of two lists one after the other, and of one operation
+pub records-append : (f : Form) (before a b : List Operation)
+    → recordsBytes f before (a ++ b) ≡ recordsBytes f before a ++ recordsBytes f (before ++ a) b
+unfolding recordsBytes
+records-append f before [] b = rw append-nil
+records-append f before (o ∷ a) b =
+    rw (records-append f (before ++ o ∷ []) a b, append-assoc before (o ∷ []) a, append-assoc)
+
+pub records-one : (f : Form) (before : List Operation) (o : Operation)
+    → recordsBytes f before (o ∷ []) ≡ recordBytes f (rankAfter before o) o
+unfolding recordsBytes
+records-one f before o = append-nil _
+
 -- ---- the file
 
 pub length-bytes : (f : Form) (t : Trace) → length (bytesOf f t) ≡ start f (size t)

@@ -18,7 +18,7 @@ ghost use Rattle.trace.specs.Trace.{size, operation, isSync, isAccess};
 pub const MARK: [u8; 2] = [0x50, 0x57];
 
 // How many bytes a record has.
-const RECORD_SIZE: usize = 10;
+pub const RECORD_SIZE: usize = 10;
 
 // What a record says: its worker, kind (1 Post, 2 Wait, 3 Read, 4 Write), number and length.
 pub struct Operation {

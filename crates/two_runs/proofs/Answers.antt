@@ -30,7 +30,8 @@ use Rattle.pair_order.proofs.Questions.{pair-comes-out}
 use Rattle.two_runs.specs.declared.RunsAnswer.the-variants.{Runs, Refused}
 use Rattle.two_runs.specs.Premises.{BothWritten}
 use Rattle.two_runs.specs.Refusals.{AcceptedUnordered, AcceptedRuns, RefusedOrdered, RefusedRuns}
-use Rattle.two_runs.specs.Runs.{runsReading, answerOf, leftBy, runsAnswer, firstAfter, secondAfter, RunsCall}
+use Rattle.two_runs.specs.Runs.{runsReading, answerOf, bufferAfter, runsAnswer, firstAfter, secondAfter}
+use Rattle.two_runs.specs.Runs.{RunsCall}
 use Rattle.two_runs.proofs.Questions.{runs-comes-out}
 
 -- ---- the order of the pair
@@ -65,7 +66,7 @@ module _ (bytes : List ℕ) (a b : ℕ) (first second : List ℕ) where
   -- ---- by the outcome of the questions
 
   pub call-by : {r : Reading} → runsReading bytes a b (length first) (length second) ≡ r
-      → RunsCall bytes a b first second (answerOf r) (leftBy b r first) (leftBy a r second)
+      → RunsCall bytes a b first second (answerOf r) (bufferAfter b r first) (bufferAfter a r second)
   unfolding runsAnswer firstAfter secondAfter
   call-by e = record { answers = rw e; leaves-first = rw e; leaves-second = rw e }
 

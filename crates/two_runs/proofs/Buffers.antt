@@ -2,14 +2,15 @@
 -- after success, both buffers.
 use mathlib.Core.List.{List}
 use mathlib.Core.Logic.{_≢_}
-use mathlib.Core.Path.{_≡_, refl, sym}
+use mathlib.Core.Path.{_≡_, sym}
 use native.Mathlib.Omega.{arith}
 use Prim.Native.Nat.{ℕ, _<_, _≤_}
 use lib.ListN.{length, getD, take, drop}
 use lib.Seq.{take-at}
 use Rattle.runs.specs.Run.{StandsBefore}
-use Rattle.trace.specs.Reading.{Reading, refused, reads}
+use Rattle.trace.specs.Reading.{Reading}
 use Rattle.trace.specs.Trace.{Trace, size}
+use Rattle.trace.proofs.Outcomes.{ComesOut}
 use Rattle.model.specs.Computed.{heldBackRun}
 use Rattle.model.specs.Moves.{HeldBackRun}
 use Rattle.model.specs.Orders.{MustPrecedeIn}
@@ -18,9 +19,10 @@ use Rattle.model.proofs.HeldBack.{held-back-run, held-back-complete, held-back-
 use Rattle.accept.specs.Acceptance.{AcceptedTrace}
 use Rattle.accept.proofs.Questions.{accepted-workers, accepted-run}
 use Rattle.lent.specs.Written.{writtenOver}
-use Rattle.lent.proofs.Writing.{written-length, written-past}
-use Rattle.two_runs.specs.Refusals.{AcceptedRuns}
-use Rattle.two_runs.specs.Runs.{runsReading, leftBy, firstAfter, secondAfter}
+use Rattle.lent.proofs.Left.{left-length}
+use Rattle.lent.proofs.Writing.{written-past}
+use Rattle.two_runs.specs.Refusals.{AcceptedRuns, RefusedRuns}
+use Rattle.two_runs.specs.Runs.{runsReading, firstAfter, secondAfter}
 use Rattle.two_runs.proofs.Answers.{call-by}
 use Rattle.two_runs.proofs.Questions.{runs-comes-out}
 
@@ -53,29 +55,27 @@ module _ {bytes : List ℕ} {t : Trace} (h : AcceptedTrace bytes t) (late : ℕ)
           let rest = drop (length (heldBackRun t late)) lent in
           take-at (heldBackRun t late) rest (size t) long
 
-  left-length : (lent : List ℕ) → size t ≤ length lent → length (leftBy late (reads t) lent) ≡ length lent
-  left-length lent l = written-length (heldBackRun t late) lent (omega (arith, long))
-
 module _ (bytes : List ℕ) (a b : ℕ) (first second : List ℕ) where
   -- ---- after any call
 
   pub after-lengths : (length (firstAfter bytes a b first second) ≡ length first)
       × (length (secondAfter bytes a b first second) ≡ length second)
-  after-lengths = go (runsReading bytes a b (length first) (length second)) refl
+  unfolding firstAfter secondAfter
+  after-lengths = (
+    left-length (λ t. heldBackRun t b) reading out first (λ t r. omega (arith, run-long r b, r .first-holds)),
+    left-length (λ t. heldBackRun t a) reading out second (λ t r. omega (arith, run-long r a, r .second-holds)),
+  )
     where
-      go : (r : Reading) → runsReading bytes a b (length first) (length second) ≡ r
-          → (length (firstAfter bytes a b first second) ≡ length first)
-          × (length (secondAfter bytes a b first second) ≡ length second)
-      go (refused q k) e =
-          let c = call-by bytes a b first second e in
-          (rw (← c .leaves-first), rw (← c .leaves-second))
-      go (reads t) e =
-          let c = call-by bytes a b first second e in
-          let runs = runs-comes-out bytes a b (length first) (length second) .passes t .0 e in
-          let h = runs .accepted .pair .numbers .accepted in (
-            rw (← c .leaves-first) (left-length h b first (runs .first-holds)),
-            rw (← c .leaves-second) (left-length h a second (runs .second-holds)),
-          )
+      reading : Reading
+      reading = runsReading bytes a b (length first) (length second)
+
+      out : ComesOut reading (AcceptedRuns bytes a b (length first) (length second))
+          (RefusedRuns bytes a b (length first) (length second))
+      out = runs-comes-out bytes a b (length first) (length second)
+
+      run-long : {t : Trace} → AcceptedRuns bytes a b (length first) (length second) t → (late : ℕ)
+          → length (heldBackRun t late) ≡ size t
+      run-long r late = long (r .accepted .pair .numbers .accepted) late
 
   -- ---- after success
 

@@ -11,7 +11,7 @@ use lib.ListN.{length}
 use Rattle.trace.specs.Reading.{Reading, refused, reads, thenAsk, noPlace}
 use Rattle.trace.specs.Trace.{Trace, size}
 use Rattle.model.specs.Computed.{unorderedIn, heldBackRun}
-use Rattle.lent.specs.Written.{writtenOver}
+use Rattle.lent.specs.Left.{leftBy}
 use Rattle.pair_order.specs.Order.{pairReading}
 use Rattle.two_runs.specs.declared.RunsAnswer.{RunsAnswer}
 use Rattle.two_runs.specs.declared.RunsAnswer.the-variants.{Runs, Refused}
@@ -40,17 +40,16 @@ runsAnswer bytes a b first second = answerOf (runsReading bytes a b (length firs
 
 -- a buffer that gets the run which holds `late` back; "Refused calls write nothing"; "everything past the last element
 -- written is as before"
-abbrev pub leftBy : ℕ → Reading → List ℕ → List ℕ
-leftBy late (refused q k) lent = lent
-leftBy late (reads t) lent = writtenOver (heldBackRun t late) lent
+abbrev pub bufferAfter : ℕ → Reading → List ℕ → List ℕ
+bufferAfter late r lent = leftBy (λ t. heldBackRun t late) r lent
 
 -- what the call leaves in the first buffer: "the run with a first", which holds b back
 unfoldable pub firstAfter : List ℕ → ℕ → ℕ → List ℕ → List ℕ → List ℕ
-firstAfter bytes a b first second = leftBy b (runsReading bytes a b (length first) (length second)) first
+firstAfter bytes a b first second = bufferAfter b (runsReading bytes a b (length first) (length second)) first
 
 -- and in the second: "the other run [...] swaps a and b"
 unfoldable pub secondAfter : List ℕ → ℕ → ℕ → List ℕ → List ℕ → List ℕ
-secondAfter bytes a b first second = leftBy a (runsReading bytes a b (length first) (length second)) second
+secondAfter bytes a b first second = bufferAfter a (runsReading bytes a b (length first) (length second)) second
 
 -- the call's promise, for any bytes, any two numbers and any buffers: its answer, and what is in the buffers afterwards
 pub record RunsCall (bytes : List ℕ) (a b : ℕ) (first second : List ℕ) (answer : RunsAnswer)

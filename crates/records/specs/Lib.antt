@@ -1,0 +1,1 @@
+-- The contracts cite the crate `trace`: specs/Writing has the bytes of a record, field by field.
