@@ -4,7 +4,7 @@ ghost use Rattle.trace.specs.Premises.{HoldsTrace};
 ghost use Rattle.trace.specs.Reading.{traceOf};
 ghost use Rattle.model.specs.Computed.{firstOutside};
 ghost use Rattle.accept.specs.Acceptance.{acceptAnswer};
-use trace::ReadAnswer;
+use reader::ReadAnswer;
 
 // The worker count and the operation count of an accepted file, or the refusal.
 pub enum AcceptAnswer {
@@ -48,7 +48,7 @@ fn complete_run(file: &[u8], workers: u8, operations: u32) -> AcceptAnswer
 pub fn accept(file: &[u8]) -> AcceptAnswer
     ensures { λ r. ⌜ r ≡ acceptAnswer (now (file .entry)) ⌝ }
 {
-    match trace::read(file) {
+    match reader::read(file) {
         ReadAnswer::Read {
             workers,
             operations,

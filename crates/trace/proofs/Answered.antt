@@ -10,7 +10,7 @@ use lib.Dec.{T, eqb, leb}
 use lib.ListN.{length, drop}
 use borrow.Author.Tests.{leb-true, ltb-true, eqb-true, lt-ltb, le-leb, eq-eqb}
 use Rattle.trace.specs.declared.Operation.{Operation}
-use Rattle.trace.specs.Form.{Form, recordSize, start}
+use Rattle.trace.specs.Form.{Form, base, recordSize, start}
 use Rattle.trace.specs.LittleEndian.{value}
 use Rattle.trace.specs.Questions.{Question, ask, firstNo, operationIn, marked, ranked, isHeader, workersFit}
 use Rattle.trace.specs.Questions.{countFits, isWhole, headerQuestion, workerKnown, kindKnown, eventFits}
@@ -104,6 +104,11 @@ number-fits a =
     [ inl h ↦ omega (arith, a .event h .0) | inr h ↦ omega (arith, a .cells h .0, a .cells h .1) ]
 
 -- ---- the questions of a record
+
+-- document 01's form has no rank field, so nothing is asked of it
+pub ranked-base : (r : ℕ) (bytes : List ℕ) → ranked base r bytes ≡ true
+unfolding ranked value
+ranked-base r bytes = refl
 
 -- where r fits the rank field, the field holds r
 pub ranked-means : (f : Form) (r : ℕ) (bytes : List ℕ) → r < 256 ^ f .rankWidth

@@ -1,6 +1,5 @@
--- What callers know of a file from the reader's answer. In order: the trace; the bytes; the header; record k lies
--- inside the file; what the answer says. Which refusal a file gets is in FirstNo, which numbers and places there are in
--- Refusals.
+-- What callers know of a file that reads as a trace. In order: the trace; the bytes; the header; record k lies inside
+-- the file. Which refusal a file gets is in FirstNo, which numbers and places there are in Refusals.
 use mathlib.Core.List.{List, []}
 use mathlib.Core.Logic.{_↔_}
 use mathlib.Core.Path.{_≡_, refl, sym, ap, _∙_}
@@ -8,16 +7,12 @@ use native.Mathlib.Nat.{mul-le-mul}
 use native.Mathlib.Omega.{arith}
 use Prim.Native.Nat.{ℕ, _+_, _*_, _<_, _≤_}
 use lib.ListN.{length, drop}
-use Rattle.runs.proofs.Booleans.{zero-one}
-use Rattle.trace.specs.declared.ReadAnswer.the-variants.{Read, Refused}
-use Rattle.trace.specs.Answer.{answerOf}
 use Rattle.trace.specs.Form.{Form, base, recordSize, start}
 use Rattle.trace.specs.Premises.{HoldsTrace}
 use Rattle.trace.specs.Questions.{operationIn}
 use Rattle.trace.specs.Reading.{Reading, refused, reads, reading, fileReading, traceOf}
 use Rattle.trace.specs.Trace.{Trace, size, operation}
 use Rattle.trace.specs.Writing.{bytesOf, WellFormed, Bytes}
-use Rattle.trace.proofs.Outcomes.{TellsRefusals, outcome-refused, outcome-reads}
 use Rattle.trace.proofs.ReadWrite.{header-says, reads-workers, reads-count, reads-admitted, reads-at}
 use Rattle.trace.proofs.ReadWrite.{reads-means}
 use Rattle.trace.proofs.Records.{start-inside}
@@ -117,23 +112,3 @@ record-of bytes k h = go (fileReading bytes) refl
           inside = reads-inside base bytes t e k l;
           same = rw s (reads-at base bytes t e k l);
         }
-
--- ---- what the answer says
-
--- the file reads as a trace of p workers and n operations
-pub answer-holds : (bytes : List ℕ) (p n : ℕ) → answerOf (fileReading bytes) ≡ Read p n → HoldsTrace bytes p n
-unfolding answerOf
-answer-holds bytes p n a =
-    let (t, e, i) = outcome-reads answerOf (λ q k z. zero-one cc) (fileReading bytes) a in
-    let ep : t .workers ≡ p = cc in
-    let en : size t ≡ n = cc in
-    rw (ep, en) at (file-holds bytes t e)
-
--- the file is refused, with this number and place
-pub answer-refused : (bytes : List ℕ) (q k : ℕ) → answerOf (fileReading bytes) ≡ Refused q k
-    → fileReading bytes ≡ refused q k
-unfolding answerOf
-answer-refused bytes q k a = outcome-refused answerOf tells (fileReading bytes) q k .0 a
-  where
-    tells : TellsRefusals answerOf
-    tells = record { apart = λ q k t z. zero-one cc; same = λ q k x y z. cc }

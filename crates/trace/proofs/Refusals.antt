@@ -16,8 +16,8 @@ use Rattle.trace.specs.Reading.{refused, fileReading}
 use Rattle.trace.specs.Refusals.{operationsIn, RefusedFirst, by-header, by-record, FileRefusedFirst}
 use Rattle.trace.specs.Refusals.{Refusal, one-to-four, five-to-nine}
 use Rattle.trace.specs.Trace.{rankAfter}
+use Rattle.trace.proofs.Answered.{ranked-base}
 use Rattle.trace.proofs.FirstNo.{refused-means}
-use Rattle.trace.proofs.ReaderSteps.{ranked-base}
 
 four-questions : (a b c d : Bool) → firstNo (ask 1 a ∷ ask 2 b ∷ ask 3 c ∷ ask 4 d ∷ []) ≤ 4
 four-questions false b c d = omega arith

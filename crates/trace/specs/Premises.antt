@@ -1,21 +1,12 @@
--- What the functions of this crate and its callers know of a file that was not refused so far.
+-- What callers know of a file that reads as a trace.
 -- Follows: document 01, "The questions", in what passing them means.
--- Differs: nowhere. Means: each premise follows from what was answered (proofs/ReaderSteps, proofs/Answers), so that
--- none of them has to be believed.
+-- Differs: nowhere. Means: it follows from how the file reads (proofs/Answers), so that nobody has to believe it.
 use mathlib.Core.List.{List}
 use mathlib.Core.Path.{_≡_}
 use Prim.Native.Nat.{ℕ, _<_, _≤_}
-use Rattle.trace.specs.Form.{Form}
-use Rattle.trace.specs.Questions.{operationIn, headerQuestion}
 use Rattle.trace.specs.Reading.{fileReading, reads, traceOf}
 use Rattle.trace.specs.Trace.{size, operation}
 use Rattle.trace.specs.Writing.{Admitted}
-
--- questions 1 to 4 do not refuse the file, and its header has p and n
-pub record HoldsHeader (f : Form) (bytes : List ℕ) (p n : ℕ) : Type 0 where
-  pub passes : headerQuestion f bytes ≡ 0
-  pub workers : operationIn bytes .worker ≡ p
-  pub count : operationIn bytes .number ≡ n
 
 -- questions 1 to 9 do not refuse the file, and its trace has p workers and n operations
 pub record HoldsTrace (bytes : List ℕ) (p n : ℕ) : Type 0 where

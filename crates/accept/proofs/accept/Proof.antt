@@ -2,7 +2,7 @@
 -- Assumes nothing.
 use mathlib.Core.Path.{sym, _∙_}
 use borrow.Author.Needs.{needs}
-use Rattle.trace.proofs.Answers.{answer-holds, answer-refused}
+use Rattle.reader.proofs.Answers.{answer-holds, answer-refused}
 use Rattle.accept.proofs.Accepting.{answer-unread}
 use Rattle.accept.proofs.accept.Statement.{statement}
 use Rattle.accept.proofs.accept.Tie as tie
