@@ -1,5 +1,7 @@
--- Demand1, Demand2, Demand3: the customer's sentences. Outcomes: one law for the answers of all calls.
+-- Demand1, Demand2, Demand3: the customer's sentences. Report: those that speak of the report. Outcomes: one law for
+-- the answers of all calls.
 pub mod Outcomes
 pub mod Demand1
 pub mod Demand2
 pub mod Demand3
+pub mod Report

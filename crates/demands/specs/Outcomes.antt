@@ -20,7 +20,7 @@ use Rattle.pair_order.specs.Refusals.{AcceptedPair, RefusedPair}
 use Rattle.two_runs.specs.declared.RunsAnswer.{RunsAnswer}
 use Rattle.two_runs.specs.declared.RunsAnswer.the-variants as runs
 use Rattle.two_runs.specs.Refusals.{AcceptedRuns, RefusedRuns}
-use Rattle.race_search.specs.RaceList.{raceCount}
+use Rattle.race_search.specs.RaceList.{raceList, raceCount}
 use Rattle.races.specs.declared.RacesAnswer.{RacesAnswer}
 use Rattle.races.specs.declared.RacesAnswer.the-variants as races
 use Rattle.races.specs.Refusals.{AcceptedRaces, RefusedRaces}
@@ -28,6 +28,7 @@ use Rattle.canonical.specs.declared.CanonicalAnswer.{CanonicalAnswer}
 use Rattle.canonical.specs.declared.CanonicalAnswer.the-variants as canonical
 use Rattle.canonical.specs.CanonicalFile.{canonicalBytes}
 use Rattle.canonical.specs.Refusals.{AcceptedOutput, RefusedOutput}
+use Rattle.report_text.specs.ReportText.{listing, refusal, tableSpace, raceSpace}
 
 -- of any call: its result for a trace that passes the questions, or the refusal by the first "no" among them
 pub data Outcome {X : Type 0} (result : Trace → X) (refusal : ℕ → ℕ → X)
@@ -79,3 +80,13 @@ CanonicalOutcome bytes room =
     canonical.Refused
     (AcceptedOutput bytes room)
     (RefusedOutput bytes room)
+
+-- the report: the lines of the counts, of each race and of their number, or the line of the refusal by questions 1 to
+-- 11 and 16, with a table for every accepted file and "space for 4,096 races"
+abbrev pub ReportOutcome : List ℕ → List ℕ → Type 0
+ReportOutcome bytes =
+    Outcome
+    (λ t. listing (t .workers) (size t) (raceList t) (raceCount t))
+    refusal
+    (AcceptedRaces bytes tableSpace raceSpace)
+    (RefusedRaces bytes tableSpace raceSpace)

@@ -1,8 +1,8 @@
 -- The starred examples of document 01, one list, computed from file bytes by the definitions that the calls' contracts
 -- cite.
 -- Follows: document 01, "Examples". A and B, whose rows, orders, runs and races are starred there, are accepted.
--- Differs: nowhere. Beside the starred ones, marked *, it has tidy files, refusals by questions 10 to 17, and lent
--- memory that just fits, is longer, or is too short.
+-- Differs: nowhere. Beside the starred ones, marked *, it has tidy files, reports, refusals by questions 10 to 17, and
+-- lent memory that just fits, is longer, or is too short.
 use mathlib.Core.List.{List, [], _∷_, _++_}
 use mathlib.Core.Path.{_≡_, refl}
 use Prim.Native.Nat.{ℕ, _*_}
@@ -42,6 +42,10 @@ use Rattle.canonical.specs.declared.CanonicalAnswer.the-variants.{Written}
 use Rattle.canonical.specs.declared.CanonicalAnswer.the-variants as canonical
 use Rattle.canonical.specs.Examples.{interleaved, canonicalFile}
 use Rattle.canonical.specs.CanonicalFile.{byWorker, canonicalBytes, canonicalReading, canonicalAnswer, outputAfter}
+use Rattle.text.specs.Ascii.{ascii}
+use Rattle.text.specs.Decimal.{decimalWithin, decimal}
+use Rattle.text.specs.Lines.{labelled, countLine, pairLine}
+use Rattle.report_text.specs.ReportText.{raceLines, listing, refusal, reportText}
 use Rattle.demands.specs.Files.{fileB, fileC, waitThenPost, postThenWait, fileE, readBehindWrite, readInWrite}
 use Rattle.demands.specs.Files.{mixed}
 
@@ -174,13 +178,25 @@ pub starred :
     × (outputAfter fileC (nines 50) ≡ nines 50)
     × (canonicalAnswer fileE (nines 10) ≡ Written 10)
     × (outputAfter fileE (nines 10) ≡ fileE)
+    -- A4: the full report; of B, of C, of E, and of no bytes at all
+    × (reportText fileA ≡ ascii "ops 7 workers 3\nrace 3 5\nraces 1\n")
+    × (reportText fileB ≡ ascii "ops 5 workers 3\nrace 0 4\nraces 1\n")
+    × (reportText fileC ≡ ascii "refused 10 0\n")
+    × (reportText fileE ≡ ascii "ops 0 workers 1\nraces 0\n")
+    × (reportText [] ≡ ascii "refused 1 0\n")
 unfolding value operationIn marked ranked isHeader workersFit headerQuestion ofWorker isSync isAccess kindKnown
     eventFits cellsFit recordQuestion readingFrom reading fileReading largestRun firstOutside acceptance acceptAnswer
     largestRunWithout row rows tableReading tableAnswer tableAfter mustPrecedeIn pairOrder heldBackRun pairReading
     orderAnswer runsReading runsAnswer firstAfter secondAfter firstIndex beginningLength prefixOf overlap clash isRace
     racesOf racesBelow raceList racesReading racesAnswer racesListed lowerAfter higherAfter digits recordBytes
-    recordsBytes bytesOf byWorker canonicalBytes canonicalReading canonicalAnswer outputAfter
+    recordsBytes bytesOf byWorker canonicalBytes canonicalReading canonicalAnswer outputAfter decimalWithin decimal
+    labelled countLine pairLine raceLines listing refusal reportText
 starred = (
+  refl,
+  refl,
+  refl,
+  refl,
+  refl,
   refl,
   refl,
   refl,
