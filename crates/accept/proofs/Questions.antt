@@ -48,6 +48,10 @@ accepted-reads a = passed a .0
 pub accepted-trace : {bytes : List ℕ} {t : Trace} → AcceptedTrace bytes t → traceOf bytes ≡ t
 accepted-trace {bytes} {t} a = trace-reads bytes t (accepted-reads a)
 
+-- an accepted file has one trace
+pub accepted-same : {bytes : List ℕ} {t u : Trace} → AcceptedTrace bytes t → AcceptedTrace bytes u → t ≡ u
+accepted-same a b = sym (accepted-trace a) ∙ accepted-trace b
+
 pub accepted-holds : {bytes : List ℕ} {t : Trace} → AcceptedTrace bytes t → HoldsTrace bytes (t .workers) (size t)
 accepted-holds {bytes} {t} a = file-holds bytes t (accepted-reads a)
 

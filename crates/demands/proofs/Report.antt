@@ -2,7 +2,7 @@
 -- bytes and any output. What a program then prints is those bytes; that it prints them is tested.
 use mathlib.Core.List.{List}
 use mathlib.Core.Logic.{_⊎_, inl, inr, _↔_, Iff·trans}
-use mathlib.Core.Path.{_≡_, refl, sym, ap, _∙_}
+use mathlib.Core.Path.{_≡_, refl, sym, _∙_}
 use native.Mathlib.Nat.{mul-le-mul}
 use native.Mathlib.Omega.{arith}
 use Prim.Native.Nat.{ℕ, _*_, _<_, _≤_}
@@ -15,18 +15,16 @@ use Rattle.trace.proofs.Outcomes.{outcome-refused}
 use Rattle.accept.specs.Acceptance.{AcceptedTrace, acceptAnswer}
 use Rattle.accept.specs.declared.AcceptAnswer.the-variants.{Refused}
 use Rattle.accept.proofs.Answers.{answer-means}
-use Rattle.accept.proofs.Questions.{refused-file, refused-number, accepted-limits, accepted-trace}
-use Rattle.accept.proofs.Questions.{accepted-workers}
+use Rattle.accept.proofs.Questions.{refused-file, refused-number, accepted-limits, accepted-workers}
 use Rattle.lent.proofs.Writing.{written-past}
 use Rattle.order_table.specs.Refusals.{AcceptedTable}
-use Rattle.order_table.proofs.Questions.{refused-table-number}
 use Rattle.race_search.specs.declared.Race.{Race}
 use Rattle.race_search.specs.Race.{RaceListOf}
 use Rattle.race_search.specs.RaceList.{raceList}
 use Rattle.race_search.proofs.OnlyList.{list-only}
 use Rattle.races.specs.Races.{racesReading}
 use Rattle.races.specs.Refusals.{RefusedRaces}
-use Rattle.races.proofs.Questions.{races-comes-out}
+use Rattle.races.proofs.Questions.{races-comes-out, refused-short}
 use Rattle.report_text.specs.ReportText.{listing, refusal, textOf, tableSpace, raceSpace, reportText, ReportCall}
 use Rattle.report_text.proofs.Cut.{report-cut}
 use Rattle.report_text.proofs.Reports.{report-part}
@@ -105,16 +103,7 @@ module _ {bytes : List ℕ} {t : Trace} (h : AcceptedTrace bytes t) {all : List 
 
   pub report-no-space : (k : ℕ)
       → (take count now ≡ refusal 16 k) ↔ ((raceSpace < length all) × (k ≡ length all))
-  report-no-space k = (
-    λ e. go (report-refused c 16 k .0 e),
-    λ p. report-refused c 16 k .1 (by-this t filled (rw same at (p .0)) refl (p .1 ∙ ap length same)),
-  )
-    where
-      go : RefusedRaces bytes tableSpace raceSpace 16 k → (raceSpace < length all) × (k ≡ length all)
-      go (by-earlier n) = absurd (omega (arith, refused-table-number n .1))
-      go (by-this u f l n z) =
-          let trace : u ≡ t = sym (accepted-trace (f .accepted)) ∙ accepted-trace h in
-          rw same (rw trace at l, rw trace at z)
+  report-no-space k = rw same (Iff·trans (report-refused c 16 k) (refused-short filled k))
 
   pub report-lists :
       (take count now ≡ listing (t .workers) (size t) all (length all)) ↔ (length all ≤ raceSpace)

@@ -13,15 +13,15 @@ use Rattle.trace.specs.Premises.{HoldsTrace}
 use Rattle.trace.specs.Reading.{Reading, refused, reads, traceOf}
 use Rattle.trace.specs.Refusals.{by-earlier, by-this}
 use Rattle.trace.specs.Trace.{Trace, size}
-use Rattle.trace.proofs.Outcomes.{TellsRefusals, outcome-refused, outcome-reads}
+use Rattle.trace.proofs.Outcomes.{TellsRefusals, outcome-refused, outcome-passes}
 use Rattle.accept.specs.Acceptance.{AcceptedTrace}
-use Rattle.accept.proofs.Questions.{accepted-trace}
+use Rattle.accept.proofs.Questions.{accepted-trace, accepted-same}
 use Rattle.order_table.specs.Refusals.{AcceptedTable}
 use Rattle.order_table.specs.Table.{tableAnswer, tableAfter}
 use Rattle.order_table.specs.declared.TableAnswer.the-variants as table
 use Rattle.order_table.proofs.Answers.{table-refused, table-filled}
 use Rattle.order_table.proofs.Entries.{after-length, after-entry}
-use Rattle.order_table.proofs.Questions.{table-comes-out, refused-table-number}
+use Rattle.order_table.proofs.Questions.{table-comes-out}
 use Rattle.race_search.specs.Premises.{HoldsTable}
 use Rattle.race_search.specs.RaceList.{raceList, raceCount}
 use Rattle.race_search.specs.declared.Race.{Race}
@@ -31,7 +31,7 @@ use Rattle.races.specs.Races.{racesReading, answerOf, racesAnswer, liste
 use Rattle.races.specs.Refusals.{AcceptedRaces, RefusedRaces}
 use Rattle.races.specs.declared.RacesAnswer.the-variants.{Listed, Refused}
 use Rattle.races.specs.declared.RacesAnswer.{RacesAnswer}
-use Rattle.races.proofs.Questions.{races-comes-out}
+use Rattle.races.proofs.Questions.{races-comes-out, refused-short}
 
 -- ---- by the outcome of the questions
 
@@ -194,31 +194,14 @@ module _ (bytes : List ℕ) (numbers room : ℕ) where
       → (racesAnswer bytes numbers room ≡ Listed (t .workers) (size t) count)
       ↔ (AcceptedRaces bytes numbers room t × (count ≡ raceCount t))
   unfolding racesAnswer
-  races-listed {t} h count = (forth, back)
-    where
-      forth : answerOf (racesReading bytes numbers room) ≡ Listed (t .workers) (size t) count
-          → AcceptedRaces bytes numbers room t × (count ≡ raceCount t)
-      forth i =
-          let (u, e, j) = outcome-reads answerOf (λ q k z. zero-one cc) (racesReading bytes numbers room) i in
-          let count-is : count ≡ raceCount u = cc in
-          let passed = races-comes-out bytes numbers room .passes u .0 e in
-          let same : u ≡ t = sym (accepted-trace (passed .filled .accepted)) ∙ accepted-trace h in
-          (rw same at passed, rw same at count-is)
-
-      back : AcceptedRaces bytes numbers room t × (count ≡ raceCount t)
-          → answerOf (racesReading bytes numbers room) ≡ Listed (t .workers) (size t) count
-      back p = rw (races-comes-out bytes numbers room .passes t .1 (p .0), p .1)
+  races-listed {t} h count =
+      Iff·trans
+      (outcome-passes answerOf (λ q k z. zero-one cc) (races-comes-out bytes numbers room)
+      (λ u p. accepted-same (p .filled .accepted) h)) (λ p. (p .0, cc), λ p. (p .0, rw (p .1)))
 
   -- where the table is long enough: the list is too short, and the place is the number of races
   pub races-short : {t : Trace} → AcceptedTable bytes numbers t → (k : ℕ)
       → (racesAnswer bytes numbers room ≡ Refused 16 k) ↔ ((room < raceCount t) × (k ≡ raceCount t))
-  races-short {t} f k = Iff·trans (races-refused 16 k) (
-    λ e. forth (races-comes-out bytes numbers room .refuses 16 k .0 e),
-    λ p. races-comes-out bytes numbers room .refuses 16 k .1 (by-this t f (p .0) refl (p .1)),
-  )
-    where
-      forth : RefusedRaces bytes numbers room 16 k → (room < raceCount t) × (k ≡ raceCount t)
-      forth (by-earlier r) = absurd (omega (arith, refused-table-number r .1))
-      forth (by-this u g l n z) =
-          let same : u ≡ t = sym (accepted-trace (g .accepted)) ∙ accepted-trace (f .accepted) in
-          (rw same at l, rw same at z)
+  races-short f k =
+      Iff·trans (races-refused 16 k)
+      (Iff·trans (races-comes-out bytes numbers room .refuses 16 k) (refused-short f k))

@@ -1,11 +1,15 @@
 -- Questions 1 to 11 and 16 of a file, a lent table and a lent race list. In order: when none refuses, and when one
--- does; which refusals there are.
+-- does; which refusals there are; when 16 refuses.
 use mathlib.Core.List.{List}
-use mathlib.Core.Logic.{_⊎_, inl, inr}
-use mathlib.Core.Path.{_≡_}
-use Prim.Native.Nat.{ℕ, _≤_}
+use mathlib.Core.Logic.{_⊎_, inl, inr, _↔_}
+use mathlib.Core.Path.{_≡_, refl}
+use native.Mathlib.Omega.{arith}
+use Prim.Native.Nat.{ℕ, _<_, _≤_}
 use Rattle.trace.specs.Refusals.{by-earlier, by-this}
+use Rattle.trace.specs.Trace.{Trace}
 use Rattle.trace.proofs.Outcomes.{ComesOut, asks-at-most, ask-next, pass-as}
+use Rattle.accept.proofs.Questions.{accepted-same}
+use Rattle.order_table.specs.Refusals.{AcceptedTable}
 use Rattle.order_table.proofs.Questions.{table-comes-out, refused-table-number}
 use Rattle.race_search.specs.RaceList.{raceCount}
 use Rattle.races.specs.Races.{racesReading}
@@ -28,3 +32,16 @@ pub refused-races-number : {bytes : List ℕ} {numbers room q k : ℕ} → Refus
     → ((1 ≤ q) × (q ≤ 11)) ⊎ (q ≡ 16)
 refused-races-number (by-earlier r) = inl (refused-table-number r)
 refused-races-number (by-this t p l n z) = inr n
+
+-- ---- when 16 refuses
+
+-- where the table is long enough: the list is too short, and the place is the number of races
+pub refused-short : {bytes : List ℕ} {numbers room : ℕ} {t : Trace} → AcceptedTable bytes numbers t → (k : ℕ)
+    → RefusedRaces bytes numbers room 16 k ↔ ((room < raceCount t) × (k ≡ raceCount t))
+refused-short {bytes} {numbers} {room} {t} f k = (forth, λ p. by-this t f (p .0) refl (p .1))
+  where
+    forth : RefusedRaces bytes numbers room 16 k → (room < raceCount t) × (k ≡ raceCount t)
+    forth (by-earlier r) = absurd (omega (arith, refused-table-number r .1))
+    forth (by-this u g l n z) =
+        let same = accepted-same (g .accepted) (f .accepted) in
+        (rw same at l, rw same at z)

@@ -2,7 +2,7 @@
 -- says, where `answer` makes it of how the questions come out.
 use mathlib.Core.Bool.{Bool, true, false, _&&_}
 use mathlib.Core.Logic.{_⊎_, _↔_, Iff·trans}
-use mathlib.Core.Path.{_≡_, refl, sym, ap}
+use mathlib.Core.Path.{_≡_, refl, sym, ap, _∙_}
 use Prim.Native.Nat.{ℕ, _<_, _≤_}
 use lib.Dec.{leb, ltb}
 use borrow.Author.Tests.{leb-true, leb-false, le-leb, lt-leb, ltb-true, ltb-false, lt-ltb, le-ltb}
@@ -130,3 +130,15 @@ module _ {X : Type 0} (answer : Reading → X) where
       → (t : Trace) × (r ≡ reads t) × (answer (reads t) ≡ x)
   outcome-reads f (refused q k) a = absurd (f q k a)
   outcome-reads f (reads t) a = (t, refl, a)
+
+  -- such an answer, where t is the only trace that can pass
+  pub outcome-passes : {x : X} → ((q k : ℕ) → answer (refused q k) ≡ x → ⊥) → {r : Reading} {Passed : Trace → Type 0}
+      {RefusedBy : ℕ → ℕ → Type 0} → ComesOut r Passed RefusedBy → {t : Trace} → ((u : Trace) → Passed u → u ≡ t)
+      → (answer r ≡ x) ↔ (Passed t × (answer (reads t) ≡ x))
+  outcome-passes f {r} c {t} only = (
+    λ a.
+        let (u, e, i) = outcome-reads f r a in
+        let p = c .passes u .0 e in
+        (rw (only u p) at p, rw (only u p) at i),
+    λ p. ap answer (c .passes t .1 (p .0)) ∙ p .1,
+  )

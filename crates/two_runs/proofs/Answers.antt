@@ -1,7 +1,7 @@
 -- What the call answers and leaves in the two buffers. In order: the order of the pair, as the code tests it; by the
 -- outcome of the questions; as the code comes to it; what the answer says.
 use mathlib.Core.List.{List}
-use mathlib.Core.Logic.{_⊎_, inl, inr, _↔_, _≢_}
+use mathlib.Core.Logic.{_⊎_, inl, inr, _↔_, Iff·trans, _≢_}
 use mathlib.Core.Path.{_≡_, refl, sym, _∙_}
 use native.Mathlib.Omega.{arith}
 use Prim.Native.Nat.{ℕ, _<_, _≤_}
@@ -14,13 +14,13 @@ use Rattle.trace.specs.Premises.{HoldsTrace}
 use Rattle.trace.specs.Reading.{Reading, refused, traceOf}
 use Rattle.trace.specs.Refusals.{by-earlier, by-this}
 use Rattle.trace.specs.Trace.{Trace, size}
-use Rattle.trace.proofs.Outcomes.{TellsRefusals, outcome-refused, outcome-reads}
+use Rattle.trace.proofs.Outcomes.{TellsRefusals, outcome-refused, outcome-passes}
 use Rattle.model.specs.Computed.{pairOrder}
 use Rattle.model.specs.Orders.{MustPrecedeIn}
 use Rattle.model.proofs.SharedOrder.{pair-order-zero, pair-order-some, pair-order-one-of}
 use Rattle.accept.specs.declared.AcceptAnswer.the-variants as accept
 use Rattle.accept.specs.Acceptance.{AcceptedTrace, acceptAnswer}
-use Rattle.accept.proofs.Questions.{accepted-workers, accepted-trace}
+use Rattle.accept.proofs.Questions.{accepted-workers, accepted-trace, accepted-same}
 use Rattle.pair_order.specs.declared.OrderAnswer.the-variants as order
 use Rattle.pair_order.specs.Order.{orderAnswer}
 use Rattle.pair_order.specs.Refusals.{AcceptedPair}
@@ -130,21 +130,10 @@ module _ (bytes : List ℕ) (a b : ℕ) (first second : List ℕ) where
       → (runsAnswer bytes a b first second ≡ Runs m)
       ↔ (AcceptedRuns bytes a b (length first) (length second) t × (m ≡ size t))
   unfolding runsAnswer
-  runs-given {t} h m = (forth, back)
-    where
-      forth : answerOf (runsReading bytes a b (length first) (length second)) ≡ Runs m
-          → AcceptedRuns bytes a b (length first) (length second) t × (m ≡ size t)
-      forth i =
-          let reading = runsReading bytes a b (length first) (length second) in
-          let (u, e, j) = outcome-reads answerOf (λ q k z. zero-one cc) reading i in
-          let count : m ≡ size u = cc in
-          let runs = runs-comes-out bytes a b (length first) (length second) .passes u .0 e in
-          let same : u ≡ t = sym (accepted-trace (runs .accepted .pair .numbers .accepted)) ∙ accepted-trace h in
-          (rw same at runs, rw same at count)
-
-      back : AcceptedRuns bytes a b (length first) (length second) t × (m ≡ size t)
-          → answerOf (runsReading bytes a b (length first) (length second)) ≡ Runs m
-      back p = rw (runs-comes-out bytes a b (length first) (length second) .passes t .1 (p .0), p .1)
+  runs-given {t} h m =
+      Iff·trans
+      (outcome-passes answerOf (λ q k z. zero-one cc) (runs-comes-out bytes a b (length first) (length second))
+      (λ u r. accepted-same (r .accepted .pair .numbers .accepted) h)) (λ p. (p .0, cc), λ p. (p .0, rw (p .1)))
 
   -- in other words: the pair order is 0, and the buffers are long enough
   pub runs-when : {t : Trace} → AcceptedTrace bytes t
