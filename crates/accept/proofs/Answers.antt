@@ -1,6 +1,6 @@
 -- What the call's answer says. In order: a refusal; the counts; an accepted file.
 use mathlib.Core.List.{List}
-use mathlib.Core.Logic.{_↔_}
+use mathlib.Core.Logic.{_↔_, Iff·trans}
 use mathlib.Core.Path.{_≡_, ap}
 use Prim.Native.Nat.{ℕ}
 use Rattle.runs.proofs.Booleans.{zero-one}
@@ -11,7 +11,8 @@ use Rattle.trace.proofs.Answers.{trace-reads}
 use Rattle.trace.proofs.Outcomes.{TellsRefusals, outcome-refused, outcome-reads}
 use Rattle.accept.specs.declared.AcceptAnswer.the-variants.{Accepted, Refused}
 use Rattle.accept.specs.Acceptance.{acceptance, AcceptedTrace, answerOf, acceptAnswer}
-use Rattle.accept.proofs.Questions.{accepted-reads, accepted-trace, accepted-holds}
+use Rattle.accept.specs.Refusals.{RefusedFile}
+use Rattle.accept.proofs.Questions.{accepted-reads, accepted-trace, accepted-holds, refused-file}
 
 module _ (bytes : List ℕ) where
   pub answer-means : (q k : ℕ) → (acceptAnswer bytes ≡ Refused q k) ↔ (acceptance bytes ≡ refused q k)
@@ -20,6 +21,10 @@ module _ (bytes : List ℕ) where
     where
       tells : TellsRefusals answerOf
       tells = record { apart = λ q k t z. zero-one cc; same = λ q k x y z. cc }
+
+  -- it is the refusal by the first "no"
+  pub refused-answer : (q k : ℕ) → (acceptAnswer bytes ≡ Refused q k) ↔ RefusedFile bytes q k
+  refused-answer q k = Iff·trans (answer-means q k) (refused-file bytes q k)
 
   -- the file is accepted, and its trace has p workers and n operations
   pub answer-accepts : (p n : ℕ) → acceptAnswer bytes ≡ Accepted p n

@@ -14,8 +14,7 @@ use Rattle.trace.proofs.Answers.{file-size}
 use Rattle.trace.proofs.Outcomes.{TellsRefusals, outcome-refused}
 use Rattle.accept.specs.declared.AcceptAnswer.the-variants as accept
 use Rattle.accept.specs.Acceptance.{AcceptedTrace, acceptAnswer}
-use Rattle.accept.proofs.Answers.{answer-means}
-use Rattle.accept.proofs.Questions.{refused-file}
+use Rattle.accept.proofs.Answers.{refused-answer}
 use Rattle.lent.specs.Left.{leftBy}
 use Rattle.canonical.specs.declared.CanonicalAnswer.the-variants.{Written, Refused}
 use Rattle.canonical.specs.CanonicalFile.{canonicalBytes, canonicalReading, answerOf, canonicalAnswer}
@@ -55,7 +54,7 @@ module _ {bytes : List ℕ} {p n : ℕ} (a : AcceptedTrace bytes (traceOf bytes)
 pub call-refused : (bytes lent : List ℕ) {q k : ℕ} → acceptAnswer bytes ≡ accept.Refused q k
     → CanonicalCall bytes lent (Refused q k) lent
 call-refused bytes lent {q} {k} i =
-    let refusal = by-earlier (refused-file bytes q k .0 (answer-means bytes q k .0 i)) in
+    let refusal = by-earlier (refused-answer bytes q k .0 i) in
     call-by bytes lent (output-comes-out bytes (length lent) .refuses q k .1 refusal)
 
 -- ---- what the answer says

@@ -13,8 +13,8 @@ use Rattle.trace.specs.Trace.{size}
 use Rattle.trace.proofs.Outcomes.{TellsRefusals, outcome-refused, outcome-reads}
 use Rattle.accept.specs.declared.AcceptAnswer.the-variants as accept
 use Rattle.accept.specs.Acceptance.{AcceptedTrace, acceptAnswer}
-use Rattle.accept.proofs.Answers.{answer-means}
-use Rattle.accept.proofs.Questions.{accepted-trace, accepted-holds, refused-file}
+use Rattle.accept.proofs.Answers.{refused-answer}
+use Rattle.accept.proofs.Questions.{accepted-trace, accepted-holds}
 use Rattle.lent.specs.Left.{leftBy}
 use Rattle.lent.specs.Written.{writtenOver}
 use Rattle.order_table.specs.declared.TableAnswer.the-variants.{Filled, Refused}
@@ -55,7 +55,7 @@ module _ {bytes : List ℕ} {p n : ℕ} (a : AcceptedTrace bytes (traceOf bytes)
 pub call-refused : (bytes lent : List ℕ) {q k : ℕ} → acceptAnswer bytes ≡ accept.Refused q k
     → TableCall bytes lent (Refused q k) lent
 call-refused bytes lent {q} {k} i =
-    let refusal = by-earlier (refused-file bytes q k .0 (answer-means bytes q k .0 i)) in
+    let refusal = by-earlier (refused-answer bytes q k .0 i) in
     call-by bytes lent (table-comes-out bytes (length lent) .refuses q k .1 refusal)
 
 -- ---- what the answer says

@@ -20,8 +20,8 @@ use Rattle.walk.proofs.EventBits.{trace-fits}
 use Rattle.simulation.proofs.Answers.{walk-must-precede}
 use Rattle.accept.specs.declared.AcceptAnswer.the-variants as accept
 use Rattle.accept.specs.Acceptance.{AcceptedTrace, acceptAnswer}
-use Rattle.accept.proofs.Answers.{answer-means}
-use Rattle.accept.proofs.Questions.{accepted-trace, refused-file}
+use Rattle.accept.proofs.Answers.{refused-answer}
+use Rattle.accept.proofs.Questions.{accepted-trace}
 use Rattle.pair_order.specs.declared.OrderAnswer.{OrderAnswer}
 use Rattle.pair_order.specs.declared.OrderAnswer.the-variants.{Ordered, Refused}
 use Rattle.pair_order.specs.Order.{pairReading, answerOf, orderAnswer}
@@ -82,7 +82,7 @@ module _ {bytes : List ℕ} {p n : ℕ} (h : AcceptedTrace bytes (traceOf bytes)
 pub answer-unaccepted : (bytes : List ℕ) (a b : ℕ) {q k : ℕ} → acceptAnswer bytes ≡ accept.Refused q k
     → Refused q k ≡ orderAnswer bytes a b
 answer-unaccepted bytes a b {q} {k} i =
-    let refusal = by-earlier (by-earlier (refused-file bytes q k .0 (answer-means bytes q k .0 i))) in
+    let refusal = by-earlier (by-earlier (refused-answer bytes q k .0 i)) in
     answer-by bytes a b (pair-comes-out bytes a b .refuses q k .1 refusal)
 
 -- ---- what the answer says
