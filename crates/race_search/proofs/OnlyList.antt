@@ -31,13 +31,25 @@ ascending-head {x} {z} {l} a m =
 ascending-tail : (x : Race) (l : List Race) → Ascending (x ∷ l) → Ascending l
 ascending-tail x l a i j d h k = a (suc i) (suc j) d (omega (arith, h)) (omega (arith, k))
 
+-- two lists that start with the same record, the first ascending: if the second holds all records of the first, what
+-- follows the record in the first follows it in the second
+behind-first : {x y : Race} {l m : List Race} → x ≡ y → Ascending (x ∷ l)
+    → ((r : Race) → List·Memᴰ r (x ∷ l) → List·Memᴰ r (y ∷ m)) → (r : Race) → List·Memᴰ r l → List·Memᴰ r m
+behind-first {x} {y} {l} {m} same a f r h = go (f r (List·Memᴰ·tail h))
+  where
+    go : List·Memᴰ r (y ∷ m) → List·Memᴰ r m
+    go (List·Memᴰ·tail k) = k
+    go (List·Memᴰ·head e) =
+        let again : Ahead x x = rw (e ∙ sym same) at (ascending-head a h) in
+        absurd (ahead-once again again)
+
 -- two lists that ascend and hold the same records are equal
 ascending-same : (l m : List Race) → Ascending l → Ascending m → ((r : Race) → List·Memᴰ r l ↔ List·Memᴰ r m) → l ≡ m
 ascending-same [] [] a b f = refl
 ascending-same [] (y ∷ m) a b f = elim (f y .1 (List·Memᴰ·head refl)) [ ]
 ascending-same (x ∷ l) [] a b f = elim (f x .0 (List·Memᴰ·head refl)) [ ]
 ascending-same (x ∷ l) (y ∷ m) a b f =
-    rw (same, ascending-same l m (ascending-tail x l a) (ascending-tail y m b) (λ r. (forth r, back r)))
+    rw (same, ascending-same l m (ascending-tail x l a) (ascending-tail y m b) tails)
   where
     first : List·Memᴰ x (y ∷ m) → List·Memᴰ y (x ∷ l) → x ≡ y
     first (List·Memᴰ·head e) k = e
@@ -47,23 +59,8 @@ ascending-same (x ∷ l) (y ∷ m) a b f =
     same : x ≡ y
     same = first (f x .0 (List·Memᴰ·head refl)) (f y .1 (List·Memᴰ·head refl))
 
-    forth : (r : Race) → List·Memᴰ r l → List·Memᴰ r m
-    forth r h = go (f r .0 (List·Memᴰ·tail h))
-      where
-        go : List·Memᴰ r (y ∷ m) → List·Memᴰ r m
-        go (List·Memᴰ·tail k) = k
-        go (List·Memᴰ·head e) =
-            let again : Ahead x x = rw (e ∙ sym same) at (ascending-head a h) in
-            absurd (ahead-once again again)
-
-    back : (r : Race) → List·Memᴰ r m → List·Memᴰ r l
-    back r h = go (f r .1 (List·Memᴰ·tail h))
-      where
-        go : List·Memᴰ r (x ∷ l) → List·Memᴰ r l
-        go (List·Memᴰ·tail k) = k
-        go (List·Memᴰ·head e) =
-            let again : Ahead y y = rw (e ∙ same) at (ascending-head b h) in
-            absurd (ahead-once again again)
+    tails : (r : Race) → List·Memᴰ r l ↔ List·Memᴰ r m
+    tails r = (behind-first same a (λ s. f s .0) r, behind-first (sym same) b (λ s. f s .1) r)
 
 pub list-only : {t : Trace} {l : List Race} → WorkersKnown t → RaceListOf t l → l ≡ raceList t
 list-only {t} {l} w h = ascending-same l (raceList t) (h .ascending) (o .ascending) (λ r. (
