@@ -1,6 +1,6 @@
 -- The races that a call lists, and what is in the two lists of numbers after it. In order: which races are listed;
 -- after any call, the lengths; after a refusal; after success.
-use mathlib.Core.List.{List, [], _∷_, _++_}
+use mathlib.Core.List.{List, [], _∷_, _++_, map}
 use mathlib.Core.Path.{_≡_, refl, ap}
 use native.Mathlib.Omega.{arith}
 use Prim.Native.Nat.{ℕ, _≤_}
@@ -49,19 +49,19 @@ module _ (bytes table lower higher : List ℕ) where
   abbrev listed : List Race
   listed = racesListed bytes (length table) room
 
-  fits : (length (lowers listed) ≤ length lower) × (length (highers listed) ≤ length higher)
-  fits =
-      let short = listed-fits bytes (length table) room in
-      let both = shorter-fits (length lower) (length higher) in (
-        rw (length-map listed (λ (r : Race). r .lower)) (omega (arith, short, both .0)),
-        rw (length-map listed (λ (r : Race). r .higher)) (omega (arith, short, both .1)),
-      )
+  -- of either list, where `number` is the lower or the higher operation of a race
+  fits : (number : Race → ℕ) {n : ℕ} → room ≤ n → length (map number listed) ≤ n
+  fits number l = rw (length-map listed number) (omega (arith, listed-fits bytes (length table) room, l))
 
   -- after any call
   pub lists-length : (length (lowerAfter bytes table lower higher) ≡ length lower)
       × (length (higherAfter bytes table lower higher) ≡ length higher)
   unfolding lowerAfter higherAfter
-  lists-length = (written-length (lowers listed) lower (fits .0), written-length (highers listed) higher (fits .1))
+  lists-length =
+      let short = shorter-fits (length lower) (length higher) in (
+        written-length (lowers listed) lower (fits (λ r. r .lower) (short .0)),
+        written-length (highers listed) higher (fits (λ r. r .higher) (short .1)),
+      )
 
   -- after a refusal
   pub lists-untouched : {q k : ℕ} → racesReading bytes (length table) room ≡ refused q k

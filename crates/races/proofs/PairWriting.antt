@@ -1,10 +1,10 @@
 -- Writing races to two lists. In order: where the next race can be looked for; the steps; the end.
-use mathlib.Core.List.{List}
-use mathlib.Core.Path.{_≡_, refl, sym, _∙_}
+use mathlib.Core.List.{List, map}
+use mathlib.Core.Path.{_≡_, refl, _∙_}
 use native.Mathlib.Numerals.{add-one}
 use native.Mathlib.Omega.{arith}
 use Prim.Native.Nat.{ℕ, zero, suc, _+_, _<_, _≤_}
-use lib.ListN.{length, getD, set, take, length-map, List·getD-map}
+use lib.ListN.{length, set, take, length-map, List·getD-map}
 use Rattle.trace.specs.Reading.{traceOf}
 use Rattle.trace.specs.Trace.{Trace}
 use Rattle.lent.proofs.Writing.{Written, written-none, written-copy}
@@ -40,6 +40,17 @@ pub pairs-none : (t : Trace) (count : ℕ) (lower higher : List ℕ)
 pairs-none t count lower higher =
     record { seen = omega arith; race-before = refl; low = written-none lower; high = written-none higher }
 
+-- one of the lists, where `number` is the lower or the higher operation of a race
+list-more : (t : Trace) (number : Race → ℕ) {at : ℕ} {old now : List ℕ}
+    → Written at (take at (map number (raceList t))) old now → at < raceCount t → at < length old
+    → Written (at + 1) (take (at + 1) (map number (raceList t))) old (set now at (number (raceAt t at)))
+list-more t number {at} w inside l =
+    rw (← List·getD-map number (raceList t) at (noRace t))
+    (written-copy (map number (raceList t)) w (number (noRace t)) long (omega (arith, w .size, l)))
+  where
+    long : at < length (map number (raceList t))
+    long = rw (length-map (raceList t) number) inside
+
 module _ {t : Trace} {count : ℕ} {lower lower-now higher higher-now : List ℕ} {race : Race} {at : ℕ}
     (w : PairsWritten t count lower lower-now higher higher-now race at) where
   pub pairs-resume : {bytes table : List ℕ} → traceOf bytes ≡ t → Writable bytes table count → at < count
@@ -54,33 +65,15 @@ module _ {t : Trace} {count : ℕ} {lower lower-now higher higher-now : List ℕ
       record {
         seen = omega arith;
         race-before = rw add-one race-is;
-        low = rw low-is (written-copy lows (w .low) (noRace t .lower) inside-low (omega (arith, w .low .size)));
-        high = rw high-is (written-copy highs (w .high) (noRace t .higher) inside-high (omega (arith, w .high .size)));
+        low = rw race-is (list-more t (λ r. r .lower) (w .low) inside (omega arith));
+        high = rw race-is (list-more t (λ r. r .higher) (w .high) inside (omega arith));
       }
     where
-      lows : List ℕ
-      lows = lowers (raceList t)
-
-      highs : List ℕ
-      highs = highers (raceList t)
-
       inside : at < raceCount t
       inside = omega arith
 
-      inside-low : at < length lows
-      inside-low = rw (length-map (raceList t) (λ (r : Race). r .lower)) inside
-
-      inside-high : at < length highs
-      inside-high = rw (length-map (raceList t) (λ (r : Race). r .higher)) inside
-
       race-is : next ≡ raceAt t at
       race-is = e ∙ rw (w .race-before) (next-race-at t at (omega (arith, inside)))
-
-      low-is : next .lower ≡ getD lows at (noRace t .lower)
-      low-is = rw race-is (sym (List·getD-map (λ (r : Race). r .lower) (raceList t) at (noRace t)))
-
-      high-is : next .higher ≡ getD highs at (noRace t .higher)
-      high-is = rw race-is (sym (List·getD-map (λ (r : Race). r .higher) (raceList t) at (noRace t)))
 
   -- ---- the end
 
