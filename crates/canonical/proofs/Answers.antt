@@ -3,13 +3,17 @@
 use mathlib.Core.List.{List, _++_}
 use mathlib.Core.Logic.{_↔_}
 use mathlib.Core.Path.{_≡_, refl, _∙_}
+use native.Mathlib.Omega.{arith}
 use Prim.Native.Nat.{ℕ, _<_, _≤_}
-use lib.ListN.{length, drop}
+use lib.ListN.{length, getD, drop}
+use mir.Syntax.{w8}
+use mir.Val.{Fits}
 use Rattle.runs.proofs.Booleans.{zero-one}
 use Rattle.trace.specs.Form.{base, start}
 use Rattle.trace.specs.Premises.{HoldsTrace}
 use Rattle.trace.specs.Refusals.{by-earlier, by-this}
 use Rattle.trace.specs.Reading.{Reading, refused, traceOf}
+use Rattle.trace.specs.Writing.{Bytes}
 use Rattle.trace.proofs.Answers.{file-size}
 use Rattle.trace.proofs.Outcomes.{TellsRefusals, outcome-refused}
 use Rattle.accept.specs.declared.AcceptAnswer.the-variants as accept
@@ -25,37 +29,41 @@ use Rattle.canonical.proofs.ReadBack.{canonical-file-length}
 
 -- ---- by the outcome of the questions
 
-pub call-by : (bytes lent : List ℕ) {r : Reading} → canonicalReading bytes (length lent) ≡ r
+pub call-by : {bytes : List ℕ} → Bytes bytes → (lent : List ℕ) {r : Reading} → canonicalReading bytes (length lent) ≡ r
     → CanonicalCall bytes lent (answerOf r) (leftBy (canonicalBytes base) r lent)
 unfolding canonicalAnswer outputAfter
-call-by bytes lent e = record { answers = rw e; leaves = rw e }
+call-by b lent e = record { answers = rw e; leaves = rw e; byte-elements = b }
 
 -- ---- as the code comes to it
 
-module _ {bytes : List ℕ} {p n : ℕ} (a : AcceptedTrace bytes (traceOf bytes) × HoldsTrace bytes p n) (lent : List ℕ)
-  where
-    -- the part of the output comes back as the tidy file
-    pub call-written : start base n ≤ length lent → {m : ℕ} {part : List ℕ} → m ≡ start base n
-        → part ≡ canonicalBytes base (traceOf bytes)
-        → CanonicalCall bytes lent (Written (start base n)) (part ++ drop m lent)
-    call-written l e i =
-        let room : AcceptedOutput bytes (length lent) (traceOf bytes)
-        = record { accepted = a .0; output-holds = rw (file-size (a .1)) l } in
-        let passed = output-comes-out bytes (length lent) .passes (traceOf bytes) .1 room in
-        let size = canonical-file-length (a .0) ∙ file-size (a .1) in
-        rw (e, i, ← size) (call-by bytes lent passed)
+-- each element of a `&[u8]` is known to be a byte
+pub bytes-known : {bytes : List ℕ} → ((i : ℕ) → Fits w8 (getD bytes i 0)) → Bytes bytes
+bytes-known f = record { byte = λ i. omega (arith, f i) }
 
-    pub call-short : length lent < start base n → CanonicalCall bytes lent (Refused 17 0) lent
-    call-short l = call-by bytes lent (output-comes-out bytes (length lent) .refuses 17 0 .1 short)
-      where
-        short : RefusedOutput bytes (length lent) 17 0
-        short = by-this (traceOf bytes) (a .0) (rw (file-size (a .1)) l) refl refl
+module _ {bytes : List ℕ} (b : Bytes bytes) {p n : ℕ} (a : AcceptedTrace bytes (traceOf bytes) × HoldsTrace bytes p n)
+    (lent : List ℕ) where
+  -- the part of the output comes back as the tidy file
+  pub call-written : start base n ≤ length lent → {m : ℕ} {part : List ℕ} → m ≡ start base n
+      → part ≡ canonicalBytes base (traceOf bytes)
+      → CanonicalCall bytes lent (Written (start base n)) (part ++ drop m lent)
+  call-written l e i =
+      let room : AcceptedOutput bytes (length lent) (traceOf bytes)
+      = record { accepted = a .0; output-holds = rw (file-size (a .1)) l } in
+      let passed = output-comes-out bytes (length lent) .passes (traceOf bytes) .1 room in
+      let size = canonical-file-length (a .0) ∙ file-size (a .1) in
+      rw (e, i, ← size) (call-by b lent passed)
 
-pub call-refused : (bytes lent : List ℕ) {q k : ℕ} → acceptAnswer bytes ≡ accept.Refused q k
+  pub call-short : length lent < start base n → CanonicalCall bytes lent (Refused 17 0) lent
+  call-short l = call-by b lent (output-comes-out bytes (length lent) .refuses 17 0 .1 short)
+    where
+      short : RefusedOutput bytes (length lent) 17 0
+      short = by-this (traceOf bytes) (a .0) (rw (file-size (a .1)) l) refl refl
+
+pub call-refused : {bytes : List ℕ} → Bytes bytes → (lent : List ℕ) {q k : ℕ} → acceptAnswer bytes ≡ accept.Refused q k
     → CanonicalCall bytes lent (Refused q k) lent
-call-refused bytes lent {q} {k} i =
+call-refused {bytes} b lent {q} {k} i =
     let refusal = by-earlier (refused-answer bytes q k .0 i) in
-    call-by bytes lent (output-comes-out bytes (length lent) .refuses q k .1 refusal)
+    call-by b lent (output-comes-out bytes (length lent) .refuses q k .1 refusal)
 
 -- ---- what the answer says
 

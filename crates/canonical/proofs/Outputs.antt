@@ -1,7 +1,7 @@
 -- What is in the lent output after the call. In order: after any call, the length; after success, the tidy file, and
 -- what lies behind it; the tidy files of two traces.
 use mathlib.Core.List.{List}
-use mathlib.Core.Path.{_≡_, sym, ap}
+use mathlib.Core.Path.{_≡_, ap}
 use native.Mathlib.Omega.{arith}
 use Prim.Native.Nat.{ℕ, _≤_}
 use lib.ListN.{length, getD, take}
@@ -15,7 +15,6 @@ use Rattle.lent.proofs.Writing.{written-past}
 use Rattle.canonical.specs.CanonicalFile.{SameWorkers, canonicalBytes, canonicalReading}
 use Rattle.canonical.specs.CanonicalFile.{outputAfter}
 use Rattle.canonical.specs.Refusals.{AcceptedOutput}
-use Rattle.canonical.proofs.Answers.{call-by}
 use Rattle.canonical.proofs.ByWorker.{canonical-same}
 use Rattle.canonical.proofs.Questions.{output-comes-out}
 use Rattle.canonical.proofs.ReadBack.{canonical-file-length}
@@ -32,9 +31,8 @@ after-length bytes lent =
 
 module _ {bytes : List ℕ} (lent : List ℕ) {t : Trace} (f : AcceptedOutput bytes (length lent) t) where
   after-written : outputAfter bytes lent ≡ writtenOver (canonicalBytes base t) lent
-  after-written =
-      let passed = output-comes-out bytes (length lent) .passes t .1 f in
-      sym (call-by bytes lent passed .leaves)
+  unfolding outputAfter
+  after-written = rw (output-comes-out bytes (length lent) .passes t .1 f)
 
   -- as many bytes as the file has are the tidy file
   pub after-canonical : take (length bytes) (outputAfter bytes lent) ≡ canonicalBytes base t

@@ -292,11 +292,12 @@ module _ {bytes lent now : List ℕ} {answer : CanonicalAnswer} (c : CanonicalCa
 
   -- What reading the file refuses, it refuses alike, whatever output it is lent:
   pub canonical-refuses-file : (q k : ℕ) → acceptAnswer bytes ≡ Refused q k → answer ≡ canonical.Refused q k
-  canonical-refuses-file q k a = c .answers ∙ sym (canonical-calls.call-refused bytes lent a .answers)
+  canonical-refuses-file q k a = c .answers ∙ sym (canonical-calls.call-refused (c .byte-elements) lent a .answers)
 
   -- "A refusal leaves lent memory untouched":
   pub canonical-untouched : (q k : ℕ) → answer ≡ canonical.Refused q k → now ≡ lent
-  canonical-untouched q k a = c .leaves ∙ sym (canonical-calls.call-by bytes lent (canonical-refusal q k a) .leaves)
+  canonical-untouched q k a =
+      c .leaves ∙ sym (canonical-calls.call-by (c .byte-elements) lent (canonical-refusal q k a) .leaves)
 
   -- Whatever is answered, the output is as long as it was:
   pub canonical-output-length : length now ≡ length lent

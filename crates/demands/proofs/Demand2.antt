@@ -14,7 +14,6 @@ use Rattle.trace.specs.Form.{base}
 use Rattle.trace.specs.Reading.{reads, fileReading}
 use Rattle.trace.specs.Refusals.{Refusal, one-to-four, five-to-nine}
 use Rattle.trace.specs.Trace.{Trace, size, workerOf, rank}
-use Rattle.trace.specs.Writing.{Bytes}
 use Rattle.trace.proofs.Refusals.{file-refused-first, file-refused}
 use Rattle.model.specs.LargestRuns.{MaximalExecution, LargestRun, LowestOutside}
 use Rattle.model.specs.Orders.{MustPrecedeIn}
@@ -26,7 +25,7 @@ use Rattle.accept.specs.Refusals.{RefusedFile, by-reading, by-runs}
 use Rattle.accept.specs.declared.AcceptAnswer.the-variants.{Accepted, Refused}
 use Rattle.accept.proofs.Answers.{answer-means, accepted-answer}
 use Rattle.accept.proofs.Questions.{refused-place, accepted-complete, refused-incomplete, refused-file}
-use Rattle.accept.proofs.Questions.{accepted-trace, accepted-workers}
+use Rattle.accept.proofs.Questions.{accepted-same, accepted-workers}
 use Rattle.order_table.specs.declared.TableAnswer.{TableAnswer}
 use Rattle.order_table.specs.Refusals.{AcceptedTable}
 use Rattle.order_table.specs.Table.{TableCall}
@@ -221,9 +220,6 @@ refused-ten-only bytes k a = go (refused-file bytes 10 k .0 (answer-means bytes 
 -- "A tidied trace reads back as the same workers' operations, while two traces with the same worker count and the same
 -- operations in each worker's order tidy to the same bytes."
 
--- `Bytes` says of a file that its elements are bytes, as those of every `&[u8]` are; a length of more than two bytes
--- would not be read back.
-
 -- For an accepted file, an output that holds at least as many bytes, and what the call (`CanonicalCall`) leaves in it:
 module _ {bytes : List ℕ} {t : Trace} (h : AcceptedTrace bytes t) {lent now : List ℕ} {answer : CanonicalAnswer}
     (l : length bytes ≤ length lent) (c : CanonicalCall bytes lent answer now) where
@@ -243,10 +239,10 @@ module _ {bytes : List ℕ} {t : Trace} (h : AcceptedTrace bytes t) {lent now : 
   canonical-past i j = rw (c .leaves) (outputs.after-past lent output i j)
 
   -- They are accepted, and read as a trace of the same workers' operations, and of as many:
-  pub canonical-reads-back : Bytes bytes
-      → (u : Trace) × AcceptedTrace (take (length bytes) now) u × SameWorkers u t × (size u ≡ size t)
-  canonical-reads-back b =
-      let accepted = rw (← canonical-holds) at (canonical-accepted b h) in
+  pub canonical-reads-back :
+      (u : Trace) × AcceptedTrace (take (length bytes) now) u × SameWorkers u t × (size u ≡ size t)
+  canonical-reads-back =
+      let accepted = rw (← canonical-holds) at (canonical-accepted (c .byte-elements) h) in
       (canonicalTrace t, accepted, canonical-same-workers t, canonical-size (accepted-workers h))
 
 -- Two accepted files tidy to the same bytes if they have the same workers' operations,
@@ -258,22 +254,23 @@ module _ {f g : List ℕ} {t u : Trace} (h : AcceptedTrace f t) (k : AcceptedTra
   canonical-same-bytes s = canonical-holds h l c ∙ same-bytes base s ∙ sym (canonical-holds k m d)
 
   -- and only then:
-  pub canonical-same-only : Bytes f → Bytes g → take (length f) f-now ≡ take (length g) g-now → SameWorkers t u
-  canonical-same-only a b e =
+  pub canonical-same-only : take (length f) f-now ≡ take (length g) g-now → SameWorkers t u
+  canonical-same-only e =
       let same : canonicalBytes base t ≡ canonicalBytes base u
       = sym (canonical-holds h l c) ∙ e ∙ canonical-holds k m d in
-      let accepted = rw same at (canonical-accepted a h) in
-      same-canonical (sym (accepted-trace accepted) ∙ accepted-trace (canonical-accepted b k))
+      let accepted = rw same at (canonical-accepted (c .byte-elements) h) in
+      same-canonical (accepted-same accepted (canonical-accepted (d .byte-elements) k))
 
 -- Tidying a tidied file gives it back:
-pub canonical-again : {bytes : List ℕ} {t : Trace} → AcceptedTrace bytes t → Bytes bytes
+pub canonical-again : {bytes : List ℕ} {t : Trace} → AcceptedTrace bytes t
     → {lent now again-lent again-now : List ℕ} {answer again : CanonicalAnswer} → length bytes ≤ length lent
     → CanonicalCall bytes lent answer now → length bytes ≤ length again-lent
     → CanonicalCall (take (length bytes) now) again-lent again again-now
     → take (length bytes) again-now ≡ take (length bytes) now
-canonical-again {bytes} {t} h b {now = now} l c m d =
+canonical-again {bytes} {t} h {now = now} l c m d =
     let tidied = canonical-holds h l c in
-    let accepted : AcceptedTrace (take (length bytes) now) (canonicalTrace t) = rw tidied (canonical-accepted b h) in
+    let accepted : AcceptedTrace (take (length bytes) now) (canonicalTrace t)
+    = rw tidied (canonical-accepted (c .byte-elements) h) in
     let long : length (take (length bytes) now) ≡ length bytes = rw tidied (canonical-file-length h) in
     rw long at (canonical-holds accepted (omega (arith, long, m)) d)
     ∙ same-bytes base (canonical-same-workers t)
