@@ -1,13 +1,13 @@
 -- Laws of little-endian numbers, over the width. In order: a number that stands at a place in a file; bytes; number to
 -- bytes to number; bytes to number to bytes. The list of bytes is explicit: `value` computes, so nothing shows it.
 use mathlib.Core.List.{List, [], _∷_, _++_}
-use mathlib.Core.Path.{_≡_, refl, ap, ap₂}
+use mathlib.Core.Path.{_≡_, refl, sym, ap, ap₂, _∙_}
 use native.Mathlib.Nat.{pow-suc}
 use native.Mathlib.Numerals.{add-one}
 use native.Mathlib.Omega.{arith}
 use Prim.Native.Nat.{ℕ, zero, suc, _+_, _*_, _/_, _%_, _^_, _<_, _≤_}
 use lib.ListN.{length, getD, take, drop}
-use lib.Seq.{getD-drop}
+use lib.Seq.{getD-drop, getD-take}
 use Rattle.trace.specs.LittleEndian.{value, digits}
 use Rattle.trace.specs.Writing.{Bytes}
 
@@ -34,6 +34,15 @@ value-drop width at bytes = rw add-one (go at bytes)
 value-zero : (bytes : List ℕ) → value 0 bytes ≡ 0
 unfolding value
 value-zero bytes = refl
+
+-- in a file that is cut behind it
+pub value-take : (width at k : ℕ) (bytes : List ℕ) → at + width ≤ k
+    → value width (drop at (take k bytes)) ≡ value width (drop at bytes)
+value-take zero at k bytes l = value-zero (drop at (take k bytes)) ∙ sym (value-zero (drop at bytes))
+value-take (suc width) at k bytes l =
+    value-drop width at (take k bytes)
+    ∙ rw (getD-take k bytes at 0 (omega arith), value-take width (at + 1) k bytes (omega arith))
+    (sym (value-drop width at bytes))
 
 -- the widths of a record's fields, as the code reads them
 pub value-two : (at : ℕ) (bytes : List ℕ) → value 2 (drop at bytes) ≡ getD bytes at 0 + 256 * getD bytes (at + 1) 0
