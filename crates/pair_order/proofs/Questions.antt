@@ -10,7 +10,7 @@ use borrow.Author.Tests.{eqb-true, eqb-false, eq-eqb, ne-eqb, not-true, not-fals
 use Rattle.trace.specs.Reading.{thenAsk, noPlace}
 use Rattle.trace.specs.Refusals.{by-earlier, by-this}
 use Rattle.trace.specs.Trace.{size}
-use Rattle.trace.proofs.Outcomes.{ComesOut, Question, asks-below, asks-both, ask-next, pass-as}
+use Rattle.trace.proofs.Outcomes.{ComesOut, Meaning, asks-below, asks-both, ask-next, pass-as}
 use Rattle.accept.specs.Acceptance.{acceptance, AcceptedTrace}
 use Rattle.accept.proofs.Questions.{comes-out, refused-number}
 use Rattle.pair_order.specs.Order.{bothBelow, theyDiffer, pairReading}
@@ -19,7 +19,7 @@ use Rattle.pair_order.specs.Refusals.{AcceptedNumbers, AcceptedPair, Ref
 -- ---- when none refuses, and when one does
 
 module _ (bytes : List ℕ) (a b : ℕ) where
-  thirteen : Question (AcceptedNumbers bytes a b) (theyDiffer a b) (λ t. a ≢ b) (λ t. a ≡ b)
+  thirteen : Meaning (AcceptedNumbers bytes a b) (theyDiffer a b) (λ t. a ≢ b) (λ t. a ≡ b)
   thirteen =
       record {
         says-yes = λ t h. (λ e. eqb-false a b (not-true (eqb a b) e), λ d. simp (ne-eqb a b d));
@@ -33,7 +33,7 @@ module _ (bytes : List ℕ) (a b : ℕ) where
     λ p. (p .numbers, p .differ),
   ))
     where
-      twelve : Question (AcceptedTrace bytes) (bothBelow a b) (λ t. (a < size t) × (b < size t))
+      twelve : Meaning (AcceptedTrace bytes) (bothBelow a b) (λ t. (a < size t) × (b < size t))
           (λ t. (size t ≤ a) ⊎ (size t ≤ b))
       twelve = asks-both (asks-below (λ t. a) size) (asks-below (λ t. b) size)
 

@@ -30,13 +30,13 @@ pub pass-as : {r : Reading} {Passed Other : Trace → Type 0} {RefusedBy : ℕ �
 pass-as c f = record { passes = λ t. Iff·trans (c .passes t) (f t); refuses = c .refuses }
 
 -- what the answers of a question mean, for traces that the questions before let pass
-pub record Question (Passed : Trace → Type 0) (holds : Trace → Bool) (Yes No : Trace → Type 0) : Type 0 where
+pub record Meaning (Passed : Trace → Type 0) (holds : Trace → Bool) (Yes No : Trace → Type 0) : Type 0 where
   pub says-yes : (t : Trace) → Passed t → (holds t ≡ true) ↔ Yes t
   pub says-no : (t : Trace) → Passed t → (holds t ≡ false) ↔ No t
 
 -- questions that ask whether one number is at most another, or below it
 pub asks-at-most : {Passed : Trace → Type 0} (x y : Trace → ℕ)
-    → Question Passed (λ t. leb (x t) (y t)) (λ t. x t ≤ y t) (λ t. y t < x t)
+    → Meaning Passed (λ t. leb (x t) (y t)) (λ t. x t ≤ y t) (λ t. y t < x t)
 asks-at-most x y =
     record {
       says-yes = λ t h. (leb-true (x t) (y t), le-leb (x t) (y t));
@@ -44,7 +44,7 @@ asks-at-most x y =
     }
 
 pub asks-below : {Passed : Trace → Type 0} (x y : Trace → ℕ)
-    → Question Passed (λ t. ltb (x t) (y t)) (λ t. x t < y t) (λ t. y t ≤ x t)
+    → Meaning Passed (λ t. ltb (x t) (y t)) (λ t. x t < y t) (λ t. y t ≤ x t)
 asks-below x y =
     record {
       says-yes = λ t h. (ltb-true (x t) (y t), lt-ltb (x t) (y t));
@@ -53,8 +53,8 @@ asks-below x y =
 
 -- a question that asks two things
 pub asks-both : {Passed : Trace → Type 0} {f g : Trace → Bool} {Yes No Yes′ No′ : Trace → Type 0}
-    → Question Passed f Yes No → Question Passed g Yes′ No′
-    → Question Passed (λ t. f t && g t) (λ t. Yes t × Yes′ t) (λ t. No t ⊎ No′ t)
+    → Meaning Passed f Yes No → Meaning Passed g Yes′ No′
+    → Meaning Passed (λ t. f t && g t) (λ t. Yes t × Yes′ t) (λ t. No t ⊎ No′ t)
 asks-both {f = f} {g = g} p q =
     record {
       says-yes = λ t h. both-pass (f t) (g t) (p .says-yes t h) (q .says-yes t h);
@@ -62,7 +62,7 @@ asks-both {f = f} {g = g} p q =
     }
 
 module _ (number : ℕ) {holds : Trace → Bool} (place : Trace → ℕ) {Passed Yes No : Trace → Type 0}
-    (asked : Question Passed holds Yes No) where
+    (asked : Meaning Passed holds Yes No) where
   asked-reads : {RefusedBy : ℕ → ℕ → Type 0} (r : Reading) → ComesOut r Passed RefusedBy → (t : Trace)
       → (thenAsk number holds place r ≡ reads t) ↔ (Passed t × Yes t)
   asked-reads r c t = (forth r c, back)

@@ -7,7 +7,7 @@ use Prim.Native.Nat.{ℕ, _<_, _≤_}
 use Rattle.trace.specs.Reading.{thenAsk, noPlace}
 use Rattle.trace.specs.Refusals.{by-earlier, by-this}
 use Rattle.trace.specs.Trace.{size}
-use Rattle.trace.proofs.Outcomes.{ComesOut, Question, asks-at-most, asks-both, ask-next, pass-as}
+use Rattle.trace.proofs.Outcomes.{ComesOut, Meaning, asks-at-most, asks-both, ask-next, pass-as}
 use Rattle.model.specs.Orders.{MustPrecedeIn, Unordered}
 use Rattle.model.proofs.SharedOrder.{unordered-test, ordered-test}
 use Rattle.accept.proofs.Questions.{accepted-workers}
@@ -20,7 +20,7 @@ use Rattle.two_runs.specs.Runs.{areUnordered, eachHolds, runsReading}
 -- ---- when none refuses, and when one does
 
 module _ (bytes : List ℕ) (a b : ℕ) where
-  fourteen : Question (AcceptedPair bytes a b) (areUnordered a b) (λ t. Unordered t a b)
+  fourteen : Meaning (AcceptedPair bytes a b) (areUnordered a b) (λ t. Unordered t a b)
       (λ t. MustPrecedeIn t a b ⊎ MustPrecedeIn t b a)
   fourteen =
       record {
@@ -28,7 +28,7 @@ module _ (bytes : List ℕ) (a b : ℕ) where
         says-no = λ t h. ordered-test (accepted-workers (h .numbers .accepted)) a b;
       }
 
-  fifteen : (x y : ℕ) → Question (AcceptedUnordered bytes a b) (eachHolds x y) (λ t. (size t ≤ x) × (size t ≤ y))
+  fifteen : (x y : ℕ) → Meaning (AcceptedUnordered bytes a b) (eachHolds x y) (λ t. (size t ≤ x) × (size t ≤ y))
       (λ t. (x < size t) ⊎ (y < size t))
   fifteen x y = asks-both (asks-at-most size (λ t. x)) (asks-at-most size (λ t. y))
 
