@@ -35,7 +35,7 @@ pub data LowestFirstRun (t : Trace) (excluded : ℕ → Type 0) : List ℕ → L
       → ((lower y : ℕ) → lower < q → CanMove t excluded d lower y → ⊥)
       → LowestFirstRun t excluded (x ∷ d) s → LowestFirstRun t excluded d (x ∷ s)
 
--- other than b; nothing
+-- what is excluded: b alone; nothing
 abbrev pub Only : ℕ → ℕ → Type 0
 Only b x = x ≡ b
 
