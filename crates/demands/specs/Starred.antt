@@ -33,7 +33,7 @@ use Rattle.two_runs.specs.Runs.{runsReading, runsAnswer, firstAfter, secondAfte
 use Rattle.beginning.specs.Computed.{firstIndex, beginningLength, prefixOf, beginningOf}
 use Rattle.beginning.specs.Returned.{ofSecond}
 use Rattle.race_search.specs.Intervals.{overlap}
-use Rattle.race_search.specs.RaceList.{clash, isRace, pair, racesOf, racesBelow, raceList}
+use Rattle.race_search.specs.RaceList.{inConflict, isRace, pair, racesOf, racesBelow, raceList}
 use Rattle.races.specs.declared.RacesAnswer.the-variants.{Listed}
 use Rattle.races.specs.declared.RacesAnswer.the-variants as races
 use Rattle.races.specs.Races.{racesReading, racesAnswer, racesListed, lowerAfter, higherAfter}
@@ -187,8 +187,8 @@ pub starred :
 unfolding value operationIn marked ranked isHeader workersFit headerQuestion ofWorker isSync isAccess kindKnown
     eventFits cellsFit recordQuestion readingFrom reading fileReading largestRun firstOutside acceptance acceptAnswer
     largestRunWithout row rows tableReading tableAnswer tableAfter mustPrecedeIn pairOrder heldBackRun pairReading
-    orderAnswer runsReading runsAnswer firstAfter secondAfter firstIndex beginningLength prefixOf overlap clash isRace
-    racesOf racesBelow raceList racesReading racesAnswer racesListed lowerAfter higherAfter digits recordBytes
+    orderAnswer runsReading runsAnswer firstAfter secondAfter firstIndex beginningLength prefixOf overlap inConflict
+    isRace racesOf racesBelow raceList racesReading racesAnswer racesListed lowerAfter higherAfter digits recordBytes
     recordsBytes bytesOf byWorker canonicalBytes canonicalReading canonicalAnswer outputAfter decimalWithin decimal
     labelled countLine pairLine raceLines listing refusal reportText
 starred = (

@@ -10,13 +10,14 @@ use lib.ListN.{List·getD-eq-default}
 use borrow.Author.Tests.{ltb-true, lt-ltb}
 use Rattle.runs.proofs.Booleans.{both-pass, either-passes, never-passes, less?}
 use Rattle.trace.specs.Trace.{Trace, size, operation, workerOf, noOperation, isRead, isWrite, isAccess}
+use Rattle.trace.proofs.Answered.{both}
 use Rattle.model.specs.Computed.{unorderedIn, mustPrecedeIn}
 use Rattle.model.specs.Orders.{Unordered}
 use Rattle.model.specs.Rule.{WorkersKnown}
 use Rattle.model.proofs.SharedOrder.{unordered-test}
 use Rattle.model.proofs.TableRows.{earlier-must-precede}
 use Rattle.race_search.specs.Race.{Reads, Writes, CommonCell, Conflict, RaceIn}
-use Rattle.race_search.specs.RaceList.{clash, isRace}
+use Rattle.race_search.specs.RaceList.{inConflict, isRace}
 use Rattle.race_search.proofs.Intervals.{overlap-common}
 
 access-test : (kind : ℕ) → (isAccess kind ≡ true) ↔ (T (isRead kind) ⊎ T (isWrite kind))
@@ -24,10 +25,10 @@ unfolding isAccess
 access-test kind = either-passes (isRead kind) (isWrite kind)
 
 module _ (t : Trace) (a b : ℕ) where
-  clash-test : (clash (operation t a) (operation t b) ≡ true)
+  conflict-test : (inConflict (operation t a) (operation t b) ≡ true)
       ↔ ((Reads t a ⊎ Writes t a) × ((Reads t b ⊎ Writes t b) × ((Writes t a ⊎ Writes t b) × CommonCell t a b)))
-  unfolding clash
-  clash-test =
+  unfolding inConflict
+  conflict-test =
       both-pass (isAccess (operation t a .kind)) _ (access-test (operation t a .kind))
       (both-pass (isAccess (operation t b .kind)) _ (access-test (operation t b .kind))
       (both-pass (isWrite (operation t a .kind) || isWrite (operation t b .kind)) _
@@ -55,7 +56,7 @@ module _ (t : Trace) (a b : ℕ) where
   unfolding isRace
   race-test w = Iff·trans
       (both-pass (ltb a b) _ (ltb-true a b, lt-ltb a b)
-      (both-pass (clash (operation t a) (operation t b)) (unorderedIn t a b) clash-test (unordered-test w a b)))
+      (both-pass (inConflict (operation t a) (operation t b)) (unorderedIn t a b) conflict-test (unordered-test w a b)))
       (forth, back)
     where
       forth : Tested → RaceIn t a b
@@ -80,21 +81,17 @@ module _ (t : Trace) (a b : ℕ) where
           )
 
   -- the first two of its questions
-  first-asked : isRace t a b ≡ true → (a < b) × (clash (operation t a) (operation t b) ≡ true)
+  first-asked : isRace t a b ≡ true → (a < b) × (inConflict (operation t a) (operation t b) ≡ true)
   unfolding isRace
   first-asked e =
-      let same : (clash (operation t a) (operation t b) ≡ true) ↔ (clash (operation t a) (operation t b) ≡ true)
-      = (λ i. i, λ i. i) in
-      let rest : (unorderedIn t a b ≡ true) ↔ (unorderedIn t a b ≡ true) = (λ i. i, λ i. i) in
-      let both = both-pass (ltb a b) _ (ltb-true a b, lt-ltb a b)
-      (both-pass (clash (operation t a) (operation t b)) (unorderedIn t a b) same rest) .0 e in
-      (both .0, both .1 .0)
+      let (ascend, rest) = both (ltb a b) _ e in
+      (ltb-true a b ascend, both (inConflict (operation t a) (operation t b)) _ rest .0)
 
   pub race-ascending : isRace t a b ≡ true → a < b
   race-ascending e = first-asked e .0
 
   pub race-below : isRace t a b ≡ true → b < size t
-  race-below e = accesses-below (clash-test .0 (first-asked e .1) .1 .0)
+  race-below e = accesses-below (conflict-test .0 (first-asked e .1) .1 .0)
 
   pub no-race-ahead : b ≤ a → isRace t a b ≡ false
   no-race-ahead l = never-passes (isRace t a b) (λ e. omega (arith, race-ascending e))
@@ -110,21 +107,21 @@ module _ (t : Trace) (a b : ℕ) where
   race-same-worker w l e =
       never-passes (isRace t a b) (λ i. race-test t a b w .0 i .unordered .not-before (earlier-must-precede t e l))
 
-  pub race-clash : clash (operation t a) (operation t b) ≡ false → isRace t a b ≡ false
+  pub race-no-conflict : inConflict (operation t a) (operation t b) ≡ false → isRace t a b ≡ false
   unfolding isRace
-  race-clash e = rw e (and-false (ltb a b))
+  race-no-conflict e = rw e (and-false (ltb a b))
 
   pub race-ordered : mustPrecedeIn t a b ≡ true → isRace t a b ≡ false
   unfolding isRace
-  race-ordered e = rw e (rw (and-false (clash (operation t a) (operation t b))) (and-false (ltb a b)))
+  race-ordered e = rw e (rw (and-false (inConflict (operation t a) (operation t b))) (and-false (ltb a b)))
 
   -- the last question
-  pub race-last : a < b → clash (operation t a) (operation t b) ≡ true → mustPrecedeIn t a b ≡ false
+  pub race-last : a < b → inConflict (operation t a) (operation t b) ≡ true → mustPrecedeIn t a b ≡ false
       → isRace t a b ≡ not (mustPrecedeIn t b a)
   unfolding isRace
   race-last l e i = rw (lt-ltb a b l, e, i)
 
   -- an operation that is no Read or Write races with none
   pub race-access : isAccess (operation t a .kind) ≡ false → isRace t a b ≡ false
-  unfolding clash
-  race-access e = race-clash (rw e)
+  unfolding inConflict
+  race-access e = race-no-conflict (rw e)

@@ -9,7 +9,7 @@ use Rattle.trace.specs.Trace.{Trace, isAccess}
 use Rattle.model.specs.Computed.{largestRunWithout, mustPrecedeIn}
 use Rattle.model.specs.Examples.{post, wait, readCell, writeCell}
 use Rattle.race_search.specs.Intervals.{overlap}
-use Rattle.race_search.specs.RaceList.{clash, isRace, pair, racesOf, racesBelow, raceList}
+use Rattle.race_search.specs.RaceList.{inConflict, isRace, pair, racesOf, racesBelow, raceList}
 
 abbrev pub threeWorkers : List Operation → Trace
 threeWorkers l = record { workers = 3; operations = l }
@@ -22,5 +22,5 @@ pub list-tests : (raceList (threeWorkers (writeCell 2 5 ∷ writeCell 0 5 ∷ wr
     ≡ pair 0 1 ∷ pair 0 3 ∷ pair 1 2 ∷ pair 1 3 ∷ [])
     -- the read waits for the write's worker; then it is certain after it
     × (raceList (threeWorkers (writeCell 0 5 ∷ post 0 1 ∷ wait 1 1 ∷ readCell 1 5 ∷ [])) ≡ [])
-unfolding isAccess overlap clash isRace racesOf racesBelow raceList largestRunWithout mustPrecedeIn
+unfolding isAccess overlap inConflict isRace racesOf racesBelow raceList largestRunWithout mustPrecedeIn
 list-tests = (refl, refl, refl)

@@ -14,8 +14,8 @@ use Rattle.race_search.specs.declared.Race.{Race}
 use Rattle.race_search.specs.Intervals.{overlap}
 
 -- "both Read or Write, at least one a Write, with a common cell"
-unfoldable pub clash : Operation → Operation → Bool
-clash x y =
+unfoldable pub inConflict : Operation → Operation → Bool
+inConflict x y =
     isAccess (x .kind)
     && (isAccess (y .kind)
     && ((isWrite (x .kind) || isWrite (y .kind))
@@ -23,7 +23,7 @@ clash x y =
 
 -- do a and b race?
 unfoldable pub isRace : Trace → ℕ → ℕ → Bool
-isRace t a b = ltb a b && (clash (operation t a) (operation t b) && unorderedIn t a b)
+isRace t a b = ltb a b && (inConflict (operation t a) (operation t b) && unorderedIn t a b)
 
 -- the record of a and b
 abbrev pub pair : ℕ → ℕ → Race

@@ -8,7 +8,7 @@ ghost use Rattle.trace.specs.Trace.{operation, isWrite};
 ghost use Rattle.model.specs.Computed.{mustPrecedeIn};
 ghost use Rattle.race_search.specs.Intervals.{overlap};
 ghost use Rattle.race_search.specs.Premises.{HoldsTable, PairInTable, LowestHigher, Resumes};
-ghost use Rattle.race_search.specs.RaceList.{clash, isRace, nextRace};
+ghost use Rattle.race_search.specs.RaceList.{inConflict, isRace, nextRace};
 use trace::Operation;
 
 // A race record: the lower and the higher operation.
@@ -40,8 +40,8 @@ fn either_writes(kind: u8, other: u8) -> bool
 }
 
 // Are both Read or Write, at least one a Write, with a common cell?
-fn clashes(x: Operation, y: Operation) -> bool
-    ensures { λ r. ⌜ r ≡ clash x y ⌝ }
+fn in_conflict(x: Operation, y: Operation) -> bool
+    ensures { λ r. ⌜ r ≡ inConflict x y ⌝ }
 {
     if !trace::is_access(x.kind) {
         return false;
@@ -74,7 +74,7 @@ fn is_race(file: &[u8], table: &[u16], p: usize, a: usize, x: Operation, b: usiz
     if x.worker == y.worker {
         return false;
     }
-    if !clashes(x, y) {
+    if !in_conflict(x, y) {
         return false;
     }
     if must_precede(file, table, p, a, b) {

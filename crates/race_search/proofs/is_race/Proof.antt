@@ -5,7 +5,7 @@ use borrow.Author.Needs.{needs}
 use borrow.Author.Tests.{not-true, not-false}
 use Rattle.trace.specs.declared.Operation.{Operation}
 use Rattle.accept.proofs.Questions.{accepted-workers}
-use Rattle.race_search.proofs.RaceTests.{race-same-worker, race-clash, race-ordered, race-last}
+use Rattle.race_search.proofs.RaceTests.{race-same-worker, race-no-conflict, race-ordered, race-last}
 use Rattle.race_search.proofs.TableEntries.{pair-back}
 use Rattle.race_search.proofs.is_race.Statement.{statement}
 use Rattle.race_search.proofs.is_race.Tie as tie
@@ -27,16 +27,16 @@ returns c =
     ahead
     (worker-of (sym x) ∙ same ∙ worker-of (c3 .operation-of .ensures)))
 
-clashes-requires : tie.Need-clashes-requires
-clashes-requires c κs = search needs
+in-conflict-requires : tie.Need-in-conflict-requires
+in-conflict-requires c κs = search needs
 
 returns-2 : tie.Need-returns-2
 returns-2 c =
     let c1 = c .before in
     let c5 = c1 .before .before .before .before in
     let c8 = c5 .before .before .before in
-    sym (race-clash _ _ _
-    (rw (← c8 .pre .2, ← c5 .operation-of .ensures, ← c1 .clashes .ensures) (not-true _ (c .if2 .taken))))
+    sym (race-no-conflict _ _ _
+    (rw (← c8 .pre .2, ← c5 .operation-of .ensures, ← c1 .in-conflict .ensures) (not-true _ (c .if2 .taken))))
 
 must-precede-requires : tie.Need-must-precede-requires
 must-precede-requires c κs = search needs
@@ -58,7 +58,7 @@ returns-4 c =
     ap not (c .must-precede2 .ensures)
     ∙ sym (race-last _ _ _
     (c11 .pre .1)
-    (rw (← c11 .pre .2, ← c8 .operation-of .ensures, ← c4 .clashes .ensures) (not-false _ (c3 .if2 .left)))
+    (rw (← c11 .pre .2, ← c8 .operation-of .ensures, ← c4 .in-conflict .ensures) (not-false _ (c3 .if2 .left)))
     (sym (c2 .must-precede .ensures) ∙ c1 .if3 .left))
 
 pub is-race-spec : {M : Type 1} → statement M
@@ -67,7 +67,7 @@ is-race-spec =
     (tie.spec
     operation-of-requires
     returns
-    clashes-requires
+    in-conflict-requires
     returns-2
     must-precede-requires
     returns-3

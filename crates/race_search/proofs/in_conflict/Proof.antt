@@ -1,22 +1,22 @@
--- `clashes` meets its contract. Assumes nothing.
+-- `in_conflict` meets its contract. Assumes nothing.
 use borrow.Author.Needs.{needs}
 use borrow.Author.Tests.{not-true, not-false}
-use Rattle.race_search.specs.RaceList.{clash}
-use Rattle.race_search.proofs.clashes.Statement.{statement}
-use Rattle.race_search.proofs.clashes.Tie as tie
+use Rattle.race_search.specs.RaceList.{inConflict}
+use Rattle.race_search.proofs.in_conflict.Statement.{statement}
+use Rattle.race_search.proofs.in_conflict.Tie as tie
 
 is-access-requires : tie.Need-is-access-requires
 is-access-requires c κs = search needs
 
 returns : tie.Need-returns
-unfolding clash
+unfolding inConflict
 returns c = simp (← c .before .is-access .ensures, not-true (c .before .is-access .result) (c .if1 .taken))
 
 is-access-requires-2 : tie.Need-is-access-requires-2
 is-access-requires-2 c κs = search needs
 
 returns-2 : tie.Need-returns-2
-unfolding clash
+unfolding inConflict
 returns-2 c =
     let c1 = c .before in
     let c2 = c1 .before in
@@ -28,7 +28,7 @@ either-writes-requires : tie.Need-either-writes-requires
 either-writes-requires c κs = search needs
 
 returns-3 : tie.Need-returns-3
-unfolding clash
+unfolding inConflict
 returns-3 c =
     let c1 = c .before in
     let c2 = c1 .before in
@@ -44,7 +44,7 @@ overlaps-requires : tie.Need-overlaps-requires
 overlaps-requires c κs = search needs
 
 returns-4 : tie.Need-returns-4
-unfolding clash
+unfolding inConflict
 returns-4 c =
     let c1 = c .before in
     let c2 = c1 .before in
@@ -65,8 +65,8 @@ returns-4 c =
       c .overlaps .ensures,
     )
 
-pub clashes-spec : {M : Type 1} → statement M
-clashes-spec =
+pub in-conflict-spec : {M : Type 1} → statement M
+in-conflict-spec =
     tie.close
     (tie.spec
     is-access-requires
