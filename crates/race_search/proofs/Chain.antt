@@ -42,11 +42,11 @@ module _ (t : Trace) where
 
   -- `count` races are counted, and race `count` is reached
   pub record Reached (race : Race) (count : ℕ) : Type 0 where
-    pub some : count ≤ raceCount t
+    pub enough : count ≤ raceCount t
     pub at : race ≡ raceAt t count
 
   pub reached-first : {race : Race} → race ≡ nextRace t (pair 0 0) → Reached race 0
-  reached-first e = record { some = omega arith; at = e ∙ next-race-at 0 (omega arith) }
+  reached-first e = record { enough = omega arith; at = e ∙ next-race-at 0 (omega arith) }
 
   module _ {race : Race} {count : ℕ} (r : Reached race count) where
     -- it is there exactly if its lower operation is
@@ -61,7 +61,7 @@ module _ (t : Trace) where
     pub reached-end : size t ≤ race .lower → count ≡ raceCount t
     reached-end l = elim (less? count (raceCount t)) [
       | inl h ↦ absurd (inside h)
-      | inr h ↦ omega (arith, h, r .some)
+      | inr h ↦ omega (arith, h, r .enough)
     ]
       where
         inside : count < raceCount t → ⊥
@@ -74,7 +74,7 @@ module _ (t : Trace) where
     reached-ascending l = rw (r .at) (omega (arith, race-operations count (reached-inside l) .0))
 
     pub reached-next : {next : Race} → race .lower < size t → next ≡ nextRace t race → Reached next (count + 1)
-    reached-next {next} l e = record { some = omega (arith, reached-inside l); at = at }
+    reached-next {next} l e = record { enough = omega (arith, reached-inside l); at = at }
       where
         at : next ≡ raceAt t (count + 1)
         at = rw add-one (e ∙ rw (r .at) (next-race-at (suc count) (reached-inside l)))
@@ -97,24 +97,16 @@ module _ (t : Trace) where
         none k i j = elim (equal? k b) [ inl z ↦ rw z e | inr d ↦ s .none k i (omega (arith, d)) ]
 
     pub none-found : b < size t → isRace t a b ≡ true → LowestHigher t a from b
-    none-found l e = record { at-most = omega arith; none-between = s .none; one = λ h. (s .at-least, e) }
+    none-found l e = record { none-between = s .none; one = λ h. (s .at-least, e) }
 
     pub none-end : {n : ℕ} → n ≤ b → size t ≡ n → LowestHigher t a from n
     none-end {n} l e =
-        record {
-          at-most = omega (arith, e);
-          none-between = λ k i j. s .none k i (omega arith);
-          one = λ h. absurd (omega (arith, e, h));
-        }
+        record { none-between = λ k i j. s .none k i (omega arith); one = λ h. absurd (omega (arith, e, h)) }
 
   -- an operation that is no Read or Write races with none
   pub none-access : {a from n : ℕ} → isAccess (operation t a .kind) ≡ false → size t ≡ n → LowestHigher t a from n
   none-access {a} {from} {n} i e =
-      record {
-        at-most = omega (arith, e);
-        none-between = λ k x y. race-access t a k i;
-        one = λ h. absurd (omega (arith, e, h));
-      }
+      record { none-between = λ k x y. race-access t a k i; one = λ h. absurd (omega (arith, e, h)) }
 
   -- ---- and row by row
 

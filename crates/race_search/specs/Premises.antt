@@ -28,9 +28,8 @@ pub record PairInTable (bytes table : List ℕ) (p a b : ℕ) : Type 0 where
   pub second : b < size (traceOf bytes)
   pub differ : a ≡ b → ⊥
 
--- b is the lowest operation from `from` on that races with a; the size of the trace where there is none
+-- b is the lowest operation from `from` on that races with a; where there is none, b is no operation
 pub record LowestHigher (t : Trace) (a from b : ℕ) : Type 0 where
-  pub at-most : b ≤ size t
   pub none-between : (k : ℕ) → from ≤ k → k < b → isRace t a k ≡ false
   pub one : b < size t → (from ≤ b) × (isRace t a b ≡ true)
 

@@ -117,7 +117,7 @@ module _ {bytes lent now : List ℕ} {room : ℕ} {answer : RacesAnswer} (c : Pl
       go (refused q k) e =
           rw (c .answers, answer-by bytes (length lent) room e)
           (record {
-            writable = record { holds = λ l. absurd (omega (arith, l)); some = omega arith };
+            writable = record { holds = λ l. absurd (omega (arith, l)); enough = omega arith };
             fits = omega arith;
             listed = listed-by bytes (length lent) room e;
           })
@@ -128,7 +128,7 @@ module _ {bytes lent now : List ℕ} {room : ℕ} {answer : RacesAnswer} (c : Pl
           (record {
             writable = record {
               holds = λ l. holds-after bytes lent (c .leaves-table) (passed .filled);
-              some = rw same (omega arith);
+              enough = rw same (omega arith);
             };
             fits = passed .list-holds;
             listed = listed-by bytes (length lent) room e ∙ rw same (sym (take-length (raceList t)));

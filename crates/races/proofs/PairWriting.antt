@@ -21,7 +21,7 @@ pub writable-resumes : {bytes table : List ℕ} {count : ℕ} → Writable bytes
     → Resumes bytes table (raceBefore (traceOf bytes) i)
 writable-resumes {bytes} w zero l = record { holds = w .holds (omega arith); ascending = omega arith }
 writable-resumes {bytes} w (suc i) l =
-    let inside : i < raceCount (traceOf bytes) = omega (arith, w .some) in
+    let inside : i < raceCount (traceOf bytes) = omega (arith, w .enough) in
     let race = race-operations (traceOf bytes) i inside in
     record { holds = w .holds (omega arith); ascending = omega (arith, race .0) }
 

@@ -12,10 +12,10 @@ use Rattle.race_search.specs.Premises.{HoldsTable}
 use Rattle.race_search.specs.RaceList.{raceList, raceCount}
 use Rattle.races.specs.Races.{lowers, highers}
 
--- where there are races to write, there is a table to find them in, and they are no more than there are
+-- `count` races can be written: there are so many, and, unless it is 0, a table to find them in
 pub record Writable (bytes table : List ℕ) (count : ℕ) : Type 0 where
   pub holds : 1 ≤ count → HoldsTable bytes table
-  pub some : count ≤ raceCount (traceOf bytes)
+  pub enough : count ≤ raceCount (traceOf bytes)
 
 -- the first `count` races are written to the two lists
 pub record BothWritten (t : Trace) (count : ℕ) (lower lower-now higher higher-now : List ℕ) : Type 0 where

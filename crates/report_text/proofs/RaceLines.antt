@@ -39,7 +39,7 @@ lines-one (s ∷ l) r =
 
 -- those of the first i races, up to the place `end`
 pub record LinesPlaced (old : List ℕ) (at : ℕ) (lower higher : List ℕ) (count i end : ℕ) (now : List ℕ) : Type 0 where
-  pub some : i ≤ count
+  pub seen : i ≤ count
   pub size : length now ≡ length old
   pub short : end ≤ at + 17 * i
   pub placed : Placed old at (raceLines (take i (records lower higher))) end now
@@ -48,7 +48,7 @@ pub lines-none : (old : List ℕ) (at : ℕ) (lower higher : List ℕ) (count : 
     → LinesPlaced old at lower higher count 0 at old
 unfolding raceLines
 lines-none old at lower higher count =
-    record { some = omega arith; size = refl; short = omega arith; placed = placed-none old at }
+    record { seen = omega arith; size = refl; short = omega arith; placed = placed-none old at }
 
 module _ {old : List ℕ} {at : ℕ} {lower higher : List ℕ} {count i end : ℕ} {now : List ℕ}
     (r : RaceRoom old at lower higher count) (p : LinesPlaced old at lower higher count i end now) where
@@ -61,7 +61,7 @@ module _ {old : List ℕ} {at : ℕ} {lower higher : List ℕ} {count i end : �
       → LinesPlaced old at lower higher count (i + 1) next then
   lines-more l {next} {then} q s =
       record {
-        some = omega (arith, l);
+        seen = omega (arith, l);
         size = placed-length placed room;
         short = omega (arith, p .short, s);
         placed = placed;
@@ -85,4 +85,4 @@ module _ {old : List ℕ} {at : ℕ} {lower higher : List ℕ} {count i end : �
 
   pub lines-all : count ≤ i
       → Placed old at (raceLines (take count (records lower higher))) end now × (end ≤ at + 17 * count)
-  lines-all l = let same : i ≡ count = omega (arith, l, p .some) in (rw same at (p .placed), rw same at (p .short))
+  lines-all l = let same : i ≡ count = omega (arith, l, p .seen) in (rw same at (p .placed), rw same at (p .short))

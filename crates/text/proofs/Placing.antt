@@ -65,20 +65,20 @@ placed-room-first {mid = mid} {then = then} p b e room = room-first then mid b e
 
 -- the first i bytes of `from` are written behind what stands before the place `at`
 pub record Copied (old : List ℕ) (at : ℕ) (from : List ℕ) (i : ℕ) (now : List ℕ) : Type 0 where
-  pub some : i ≤ length from
+  pub inside : i ≤ length from
   pub written : Written (at + i) (take at old ++ take i from) old now
 
 module _ (old : List ℕ) (at : ℕ) (from : List ℕ) (room : at + length from ≤ length old) where
   pub copied-none : Copied old at from 0 old
   copied-none =
       record {
-        some = omega arith;
+        inside = omega arith;
         written = rw (add-zero at) (placed-written old at [] (omega (arith, room)) (placed-none old at));
       }
 
   module _ {i : ℕ} {now : List ℕ} (p : Copied old at from i now) where
     pub copied-more : i < length from → Copied old at from (i + 1) (set now (at + i) (getD from i 0))
-    copied-more l = record { some = omega (arith, l); written = rw (more, ← append-assoc, end) next }
+    copied-more l = record { inside = omega (arith, l); written = rw (more, ← append-assoc, end) next }
       where
         more : take (i + 1) from ≡ take i from ++ getD from i 0 ∷ []
         more = rw add-one (take-suc from i 0 l)

@@ -156,7 +156,7 @@ module _ {M : Type 1} (𝓤 : URA M) (H : Heap 𝓤) (A : Atoms 𝓤) (W : Given
   before i = raceBefore t i
 
   upto-length : (i : ℕ) → i ≤ n → length (upto i) ≡ length old
-  upto-length i l = listed-length t old i (omega (arith, can .0 .some)) (omega (arith, can .1))
+  upto-length i l = listed-length t old i (omega (arith, can .0 .enough)) (omega (arith, can .1))
 
   -- a race record that a local can hold
   abbrev Fit : Race → Type 0
@@ -385,7 +385,7 @@ module _ {M : Type 1} (𝓤 : URA M) (H : Heap 𝓤) (A : Atoms 𝓤) (W : Given
         within less = omega (arith, can .1, below less, upto-length (i .0) (i .1 .0))
 
         is-one : Holds (ltb (i .0) n) → i .0 < raceCount t
-        is-one less = omega (arith, can .0 .some, below less)
+        is-one less = omega (arith, can .0 .enough, below less)
 
         this : Holds (ltb (i .0) n) → (r : Race) → r ≡ nextRace t (before (i .0)) → r ≡ raceAt t (i .0)
         this less r e = e ∙ next-race-at t (i .0) (omega (arith, is-one less))

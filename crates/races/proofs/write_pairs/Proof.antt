@@ -59,7 +59,7 @@ loop-again c =
     let c2 = c1 .before in
     let c7 = c2 .before .before .before .before .before in
     let (w, low, high) = c7 .pre in
-    pairs-more (c2 .loop .inv) (w .some) low high (c1 .loop-test .taken) (c .next-race .ensures)
+    pairs-more (c2 .loop .inv) (w .enough) low high (c1 .loop-test .taken) (c .next-race .ensures)
 
 same-length : tie.Need-same-length Inv-loop μ-loop
 same-length c = c .before .loop .inv .low .size
