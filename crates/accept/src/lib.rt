@@ -26,7 +26,7 @@ fn first_outside(file: &[u8], p: usize, n: usize) -> usize
 }
 
 // Question 10 of a file that questions 1 to 9 do not refuse.
-fn complete_run(file: &[u8], workers: u8, operations: u32) -> AcceptAnswer
+fn accept_if_complete(file: &[u8], workers: u8, operations: u32) -> AcceptAnswer
     requires { ⌜ HoldsTrace (now file) workers operations ⌝ }
     ensures { λ r. ⌜ r ≡ acceptAnswer (now (file .entry)) ⌝ }
 {
@@ -52,7 +52,7 @@ pub fn accept(file: &[u8]) -> AcceptAnswer
         ReadAnswer::Read {
             workers,
             operations,
-        } => complete_run(file, workers, operations),
+        } => accept_if_complete(file, workers, operations),
         ReadAnswer::Refused { number, place } => AcceptAnswer::Refused {
             number: number,
             place: place,

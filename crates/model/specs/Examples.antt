@@ -78,12 +78,12 @@ unfolding largestRun firstOutside
 freed-tests = (refl, refl)
 
 -- 0: worker 0 reads; 1: worker 1 waits for 1; 2: worker 0 waits for 2; 3: worker 1 posts 2; 4: worker 0 posts 1
-abbrev pub circle : Trace
-circle =
+abbrev pub deadlock : Trace
+deadlock =
     let l = readCell 0 1 ∷ wait 1 1 ∷ wait 0 2 ∷ post 1 2 ∷ post 0 1 ∷ [] in
     record { workers = 2; operations = l }
 
 -- only the Read can run; the lowest operation outside is worker 1's Wait, though worker 0 has an operation outside too
-pub circle-tests : (largestRun circle ≡ 0 ∷ []) × (firstOutside circle ≡ 1)
+pub deadlock-tests : (largestRun deadlock ≡ 0 ∷ []) × (firstOutside deadlock ≡ 1)
 unfolding largestRun firstOutside
-circle-tests = (refl, refl)
+deadlock-tests = (refl, refl)

@@ -5,7 +5,7 @@
 --                    halves of its ghost variable
 --     lends-shared   own (the `&κ mut [T]` ((b, o), γ, ys)) ∗ [κ]_q
 --                    ⊢ ⇛ ∃ γ₁. own (the `&κ′ [T]` ((b, o), γ₁, ys)) ∗ LentShared
---     comes-home     given `Room`: [†κ′] ∗ LentShared ⊢ ⇛ (own (the `&κ mut [T]` ((b, o), γ, ys)) ∗ [κ]_q)
+--     shared-back    given `Room`: [†κ′] ∗ LentShared ⊢ ⇛ (own (the `&κ mut [T]` ((b, o), γ, ys)) ∗ [κ]_q)
 -- Assumes `Given`.
 use mathlib.Core.List.{List, [], _∷_}
 use mathlib.Core.Path.{_≡_, refl}
@@ -69,9 +69,9 @@ module _ (R : RattleType) (κ κ′ : Lft) (q : Share) (γ : GName) (b o : ℕ) 
         show ! (λ (γ′ : GName). sep 𝓤 (sem 𝓤 H A (Theirs γ′ m)) (sem 𝓤 H A (LentShared ys))) γ₁ $ frame ! $
         move ! (2 ∷ 3 ∷ []) $ fjoin ! $ move ! (2 ∷ 0 ∷ []) $ fjoin ! $ move ! (1 ∷ 0 ∷ []) $ fjoin ! $ done !))
 
-    pub comes-home : Room R m
+    pub shared-back : Room R m
         → ent 𝓤 (sep 𝓤 (A .dead κ′) (sem 𝓤 H A (LentShared ys))) (H .⇛ (sep 𝓤 (sem 𝓤 H A Mine) (A .lft κ q)))
-    comes-home room =
+    shared-back room =
         qed W (‵ (fdead κ′) ∷ ‵ (LentShared ys) ∷ []) ∵ updating ! $ move ! (1 ∷ []) $ fsplit ! $ move ! (2 ∷ 0 ∷ []) $
         lent-back ! tt $ fsplit ! $ drop ! $
         -- [the row; the open borrow]

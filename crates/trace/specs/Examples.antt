@@ -27,12 +27,12 @@ abbrev pub headed : ℕ → ℕ → List ℕ → List ℕ
 headed p n rest = withMark p 0 n 0 0 0 0 0 rest
 
 -- a file of two workers and one operation
-abbrev pub one : List ℕ → List ℕ
-one rest = headed 2 1 rest
+abbrev pub fileOfOne : List ℕ → List ℕ
+fileOfOne rest = headed 2 1 rest
 
 -- a file of two workers, of which the first posts event 1, and one operation more
-abbrev pub two : List ℕ → List ℕ
-two rest = headed 2 2 (withMark 0 1 1 0 0 0 0 0 rest)
+abbrev pub fileOfTwo : List ℕ → List ℕ
+fileOfTwo rest = headed 2 2 (withMark 0 1 1 0 0 0 0 0 rest)
 
 -- what a file of two workers with one operation reads as: worker, kind, number, length
 abbrev pub reads-one : ℕ → ℕ → ℕ → ℕ → Reading
@@ -71,8 +71,8 @@ headers =
     ∷ gives (withMark 1 0 0 4 0 0 0 0 []) (refused 4 0)
     -- one byte more; one byte less; a record too few; a record too many
     ∷ gives (headed 1 0 (0 ∷ [])) (refused 4 0)
-    ∷ gives (one (0x50 ∷ 0x57 ∷ 0 ∷ 1 ∷ 1 ∷ 0 ∷ 0 ∷ 0 ∷ 0 ∷ [])) (refused 4 0)
-    ∷ gives (one []) (refused 4 0)
+    ∷ gives (fileOfOne (0x50 ∷ 0x57 ∷ 0 ∷ 1 ∷ 1 ∷ 0 ∷ 0 ∷ 0 ∷ 0 ∷ [])) (refused 4 0)
+    ∷ gives (fileOfOne []) (refused 4 0)
     ∷ gives (headed 2 0 (withMark 0 1 1 0 0 0 0 0 [])) (refused 4 0)
     -- E: one worker, no operations; sixteen workers
     ∷ gives (headed 1 0 []) (reads (record { workers = 1; operations = [] }))
@@ -82,46 +82,46 @@ headers =
 abbrev pub records : List Case
 records =
     -- another mark: by its first byte, swapped, by its second byte
-    gives (one (0x51 ∷ 0x57 ∷ fields 0 1 1 0 0 0 0 0 [])) (refused 5 0)
-    ∷ gives (one (0x57 ∷ 0x50 ∷ fields 0 1 1 0 0 0 0 0 [])) (refused 5 0)
-    ∷ gives (one (0x50 ∷ 0x58 ∷ fields 0 1 1 0 0 0 0 0 [])) (refused 5 0)
+    gives (fileOfOne (0x51 ∷ 0x57 ∷ fields 0 1 1 0 0 0 0 0 [])) (refused 5 0)
+    ∷ gives (fileOfOne (0x57 ∷ 0x50 ∷ fields 0 1 1 0 0 0 0 0 [])) (refused 5 0)
+    ∷ gives (fileOfOne (0x50 ∷ 0x58 ∷ fields 0 1 1 0 0 0 0 0 [])) (refused 5 0)
     -- the worker is p, or 255; the kind is 0, 5 or 255
-    ∷ gives (one (withMark 2 1 1 0 0 0 0 0 [])) (refused 6 0)
-    ∷ gives (one (withMark 255 1 1 0 0 0 0 0 [])) (refused 6 0)
-    ∷ gives (one (withMark 0 0 1 0 0 0 0 0 [])) (refused 7 0)
-    ∷ gives (one (withMark 0 5 1 0 0 0 0 0 [])) (refused 7 0)
-    ∷ gives (one (withMark 0 255 1 0 0 0 0 0 [])) (refused 7 0)
+    ∷ gives (fileOfOne (withMark 2 1 1 0 0 0 0 0 [])) (refused 6 0)
+    ∷ gives (fileOfOne (withMark 255 1 1 0 0 0 0 0 [])) (refused 6 0)
+    ∷ gives (fileOfOne (withMark 0 0 1 0 0 0 0 0 [])) (refused 7 0)
+    ∷ gives (fileOfOne (withMark 0 5 1 0 0 0 0 0 [])) (refused 7 0)
+    ∷ gives (fileOfOne (withMark 0 255 1 0 0 0 0 0 [])) (refused 7 0)
     -- G: event 255, as a Post and as a Wait; 256; 65,536; 4,294,967,295; length 1; length 256
-    ∷ gives (one (withMark 1 1 255 0 0 0 0 0 [])) (reads-one 1 1 255 0)
-    ∷ gives (one (withMark 1 2 255 0 0 0 0 0 [])) (reads-one 1 2 255 0)
-    ∷ gives (one (withMark 0 1 0 1 0 0 0 0 [])) (refused 8 0)
-    ∷ gives (one (withMark 0 2 0 1 0 0 0 0 [])) (refused 8 0)
-    ∷ gives (one (withMark 0 1 0 0 1 0 0 0 [])) (refused 8 0)
-    ∷ gives (one (withMark 0 1 255 255 255 255 0 0 [])) (refused 8 0)
-    ∷ gives (one (withMark 0 1 1 0 0 0 1 0 [])) (refused 8 0)
-    ∷ gives (one (withMark 0 2 1 0 0 0 0 1 [])) (refused 8 0)
+    ∷ gives (fileOfOne (withMark 1 1 255 0 0 0 0 0 [])) (reads-one 1 1 255 0)
+    ∷ gives (fileOfOne (withMark 1 2 255 0 0 0 0 0 [])) (reads-one 1 2 255 0)
+    ∷ gives (fileOfOne (withMark 0 1 0 1 0 0 0 0 [])) (refused 8 0)
+    ∷ gives (fileOfOne (withMark 0 2 0 1 0 0 0 0 [])) (refused 8 0)
+    ∷ gives (fileOfOne (withMark 0 1 0 0 1 0 0 0 [])) (refused 8 0)
+    ∷ gives (fileOfOne (withMark 0 1 255 255 255 255 0 0 [])) (refused 8 0)
+    ∷ gives (fileOfOne (withMark 0 1 1 0 0 0 1 0 [])) (refused 8 0)
+    ∷ gives (fileOfOne (withMark 0 2 1 0 0 0 0 1 [])) (refused 8 0)
     -- G: the last cell, with length 1, 2 and 0; 65,535 cells up to the last, and one past it
-    ∷ gives (one (withMark 0 3 255 255 255 255 1 0 [])) (reads-one 0 3 4294967295 1)
-    ∷ gives (one (withMark 0 3 255 255 255 255 2 0 [])) (refused 9 0)
-    ∷ gives (one (withMark 0 4 255 255 255 255 0 0 [])) (refused 9 0)
-    ∷ gives (one (withMark 0 4 1 0 255 255 255 255 [])) (reads-one 0 4 4294901761 65535)
-    ∷ gives (one (withMark 0 4 2 0 255 255 255 255 [])) (refused 9 0)
+    ∷ gives (fileOfOne (withMark 0 3 255 255 255 255 1 0 [])) (reads-one 0 3 4294967295 1)
+    ∷ gives (fileOfOne (withMark 0 3 255 255 255 255 2 0 [])) (refused 9 0)
+    ∷ gives (fileOfOne (withMark 0 4 255 255 255 255 0 0 [])) (refused 9 0)
+    ∷ gives (fileOfOne (withMark 0 4 1 0 255 255 255 255 [])) (reads-one 0 4 4294901761 65535)
+    ∷ gives (fileOfOne (withMark 0 4 2 0 255 255 255 255 [])) (refused 9 0)
     -- A, operation 0: 50 57 00 04 07 00 00 00 01 00
-    ∷ gives (one (0x50 ∷ 0x57 ∷ 0x00 ∷ 0x04 ∷ 0x07 ∷ 0x00 ∷ 0x00 ∷ 0x00 ∷ 0x01 ∷ 0x00 ∷ [])) (reads-one 0 4 7 1)
+    ∷ gives (fileOfOne (0x50 ∷ 0x57 ∷ 0x00 ∷ 0x04 ∷ 0x07 ∷ 0x00 ∷ 0x00 ∷ 0x00 ∷ 0x01 ∷ 0x00 ∷ [])) (reads-one 0 4 7 1)
     -- each question at place 1
-    ∷ gives (two (0x50 ∷ 0x56 ∷ fields 0 1 1 0 0 0 0 0 [])) (refused 5 1)
-    ∷ gives (two (withMark 2 1 1 0 0 0 0 0 [])) (refused 6 1)
-    ∷ gives (two (withMark 1 5 1 0 0 0 0 0 [])) (refused 7 1)
-    ∷ gives (two (withMark 1 2 0 1 0 0 0 0 [])) (refused 8 1)
-    ∷ gives (two (withMark 1 3 0 0 0 0 0 0 [])) (refused 9 1)
+    ∷ gives (fileOfTwo (0x50 ∷ 0x56 ∷ fields 0 1 1 0 0 0 0 0 [])) (refused 5 1)
+    ∷ gives (fileOfTwo (withMark 2 1 1 0 0 0 0 0 [])) (refused 6 1)
+    ∷ gives (fileOfTwo (withMark 1 5 1 0 0 0 0 0 [])) (refused 7 1)
+    ∷ gives (fileOfTwo (withMark 1 2 0 1 0 0 0 0 [])) (refused 8 1)
+    ∷ gives (fileOfTwo (withMark 1 3 0 0 0 0 0 0 [])) (refused 9 1)
     -- the first "no": 5 before 6, 7, 8 and 9; 6 before 7, 8 and 9; record 0's 8 before record 1's 5
-    ∷ gives (one (0 ∷ 0 ∷ fields 2 1 1 0 0 0 0 0 [])) (refused 5 0)
-    ∷ gives (one (0 ∷ 0 ∷ fields 0 5 1 0 0 0 0 0 [])) (refused 5 0)
-    ∷ gives (one (0 ∷ 0 ∷ fields 0 1 0 1 0 0 0 0 [])) (refused 5 0)
-    ∷ gives (one (0 ∷ 0 ∷ fields 0 3 7 0 0 0 0 0 [])) (refused 5 0)
-    ∷ gives (one (withMark 2 5 1 0 0 0 0 0 [])) (refused 6 0)
-    ∷ gives (one (withMark 2 1 0 1 0 0 0 0 [])) (refused 6 0)
-    ∷ gives (one (withMark 2 3 7 0 0 0 0 0 [])) (refused 6 0)
+    ∷ gives (fileOfOne (0 ∷ 0 ∷ fields 2 1 1 0 0 0 0 0 [])) (refused 5 0)
+    ∷ gives (fileOfOne (0 ∷ 0 ∷ fields 0 5 1 0 0 0 0 0 [])) (refused 5 0)
+    ∷ gives (fileOfOne (0 ∷ 0 ∷ fields 0 1 0 1 0 0 0 0 [])) (refused 5 0)
+    ∷ gives (fileOfOne (0 ∷ 0 ∷ fields 0 3 7 0 0 0 0 0 [])) (refused 5 0)
+    ∷ gives (fileOfOne (withMark 2 5 1 0 0 0 0 0 [])) (refused 6 0)
+    ∷ gives (fileOfOne (withMark 2 1 0 1 0 0 0 0 [])) (refused 6 0)
+    ∷ gives (fileOfOne (withMark 2 3 7 0 0 0 0 0 [])) (refused 6 0)
     ∷ gives (headed 2 2 (withMark 0 1 0 1 0 0 0 0 (0 ∷ 0 ∷ fields 0 1 1 0 0 0 0 0 []))) (refused 8 0)
     ∷ []
 

@@ -13,8 +13,8 @@ read-requires c κs = search needs
 enum-known-workers : tie.Need-enum-known-workers
 enum-known-workers c = search needs
 
-complete-run-requires : tie.Need-complete-run-requires
-complete-run-requires c κs =
+accept-if-complete-requires : tie.Need-accept-if-complete-requires
+accept-if-complete-requires c κs =
     answer-holds _ _ _ (sym (c .before .before .before .read .ensures) ∙ c .before .workers .given .1)
 
 enum-known-number : tie.Need-enum-known-number
@@ -34,7 +34,7 @@ accept-spec =
     (tie.spec
     read-requires
     enum-known-workers
-    complete-run-requires
+    accept-if-complete-requires
     enum-known-number
     returns
     returns-2)

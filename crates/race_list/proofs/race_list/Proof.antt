@@ -62,7 +62,7 @@ use Rattle.races.proofs.to_write.Symbol.{name as #to-write}
 use Rattle.races.proofs.to_write.Met as n-thm
 use Rattle.race_list.proofs.LentAgain.{LentAgain, lends-again, comes-back}
 use Rattle.race_list.proofs.RecordWriting.{listed, plan-leaves, plan-kept}
-use Rattle.race_list.proofs.LentShared.{LentShared, lends-shared, comes-home}
+use Rattle.race_list.proofs.LentShared.{LentShared, lends-shared, shared-back}
 use Rattle.race_list.proofs.write_races as w
 use Rattle.race_list.proofs.write_races.Symbol as w-def
 use Rattle.race_list.proofs.write_races.Symbol.{name as #write-races}
@@ -404,7 +404,7 @@ module _ {M : Type 1} (𝓤 : URA M) (H : Heap 𝓤) (A : Atoms 𝓤) (W : Given
         -- [ν′'s token; κ₁'s; κ₂'s; the last list; file; the table's loan; the answer; _13 at 7; …]
         lft-end ! tt $ move ! (0 ∷ 5 ∷ []) $
         use2 W (later (‵ (ownT (ts .1 .0)) ⊛ ‵ (flft κ q)))
-        (comes-home u16 κ (ν′ ∷ []) q γ b o 𝓤 H A W (named 1) (named 2) (ts .1 .0) (length t) l room) $
+        (shared-back u16 κ (ν′ ∷ []) q γ b o 𝓤 H A W (named 1) (named 2) (ts .1 .0) (length t) l room) $
         await ! tt $ split ! $
         -- [table; κ's token; κ₁'s; κ₂'s; the last list; file; the answer; _13 at 7; …]
         assigns ! (of-opd ! (load ! (from ! (stop !)) (look ! 23 refl))) (from ! (stop !))

@@ -1,9 +1,9 @@
--- `complete_run` meets its contract.
+-- `accept_if_complete` meets its contract.
 -- Assumes nothing.
 use borrow.Author.Needs.{needs}
 use Rattle.accept.proofs.Accepting.{answer-refused, answer-accepted}
-use Rattle.accept.proofs.complete_run.Statement.{statement}
-use Rattle.accept.proofs.complete_run.Tie as tie
+use Rattle.accept.proofs.accept_if_complete.Statement.{statement}
+use Rattle.accept.proofs.accept_if_complete.Tie as tie
 
 first-outside-requires : tie.Need-first-outside-requires
 first-outside-requires c κs = search needs
@@ -17,5 +17,5 @@ returns c = answer-refused (c .before .before .before .pre) (c .before .first-ou
 returns-2 : tie.Need-returns-2
 returns-2 c = answer-accepted (c .before .before .before .pre) (c .before .first-outside .ensures) (c .if1 .left)
 
-pub complete-run-spec : {M : Type 1} → statement M
-complete-run-spec = tie.close (tie.spec first-outside-requires cast-t8 returns returns-2)
+pub accept-if-complete-spec : {M : Type 1} → statement M
+accept-if-complete-spec = tie.close (tie.spec first-outside-requires cast-t8 returns returns-2)
