@@ -34,6 +34,10 @@ pub call-by : {bytes : List ℕ} → Bytes bytes → (lent : List ℕ) {r : Read
 unfolding canonicalAnswer outputAfter
 call-by b lent e = record { answers = rw e; leaves = rw e; byte-elements = b }
 
+by-no : {bytes : List ℕ} → Bytes bytes → (lent : List ℕ) {q k : ℕ} → RefusedOutput bytes (length lent) q k
+    → CanonicalCall bytes lent (Refused q k) lent
+by-no {bytes} b lent {q} {k} r = call-by b lent (output-comes-out bytes (length lent) .refuses q k .1 r)
+
 -- ---- as the code comes to it
 
 -- each element of a `&[u8]` is known to be a byte
@@ -54,16 +58,11 @@ module _ {bytes : List ℕ} (b : Bytes bytes) {p n : ℕ} (a : AcceptedTrace byt
       rw (e, i, ← size) (call-by b lent passed)
 
   pub call-short : length lent < start base n → CanonicalCall bytes lent (Refused 17 0) lent
-  call-short l = call-by b lent (output-comes-out bytes (length lent) .refuses 17 0 .1 short)
-    where
-      short : RefusedOutput bytes (length lent) 17 0
-      short = by-this (traceOf bytes) (a .0) (rw (file-size (a .1)) l) refl refl
+  call-short l = by-no b lent (by-this (traceOf bytes) (a .0) (rw (file-size (a .1)) l) refl refl)
 
 pub call-refused : {bytes : List ℕ} → Bytes bytes → (lent : List ℕ) {q k : ℕ} → acceptAnswer bytes ≡ accept.Refused q k
     → CanonicalCall bytes lent (Refused q k) lent
-call-refused {bytes} b lent {q} {k} i =
-    let refusal = by-earlier (refused-answer bytes q k .0 i) in
-    call-by b lent (output-comes-out bytes (length lent) .refuses q k .1 refusal)
+call-refused {bytes} b lent {q} {k} i = by-no b lent (by-earlier (refused-answer bytes q k .0 i))
 
 -- ---- what the answer says
 

@@ -30,6 +30,9 @@ pub call-by : (bytes lent : List ℕ) {r : Reading} → tableReading bytes (leng
 unfolding tableAnswer tableAfter
 call-by bytes lent e = record { answers = rw e; leaves = rw e }
 
+by-no : (bytes lent : List ℕ) {q k : ℕ} → RefusedTable bytes (length lent) q k → TableCall bytes lent (Refused q k) lent
+by-no bytes lent {q} {k} r = call-by bytes lent (table-comes-out bytes (length lent) .refuses q k .1 r)
+
 -- ---- as the code comes to it
 
 module _ {bytes : List ℕ} {p n : ℕ} (a : AcceptedTrace bytes (traceOf bytes) × HoldsTrace bytes p n) (lent : List ℕ)
@@ -47,16 +50,11 @@ module _ {bytes : List ℕ} {p n : ℕ} (a : AcceptedTrace bytes (traceOf bytes)
         record { answers = rw (a .1 .workers, a .1 .count) at (c .answers); leaves = i ∙ c .leaves }
 
     pub call-short : length lent < n * p → TableCall bytes lent (Refused 11 0) lent
-    call-short l = call-by bytes lent (table-comes-out bytes (length lent) .refuses 11 0 .1 short)
-      where
-        short : RefusedTable bytes (length lent) 11 0
-        short = by-this (traceOf bytes) (a .0) (rw numbers l) refl refl
+    call-short l = by-no bytes lent (by-this (traceOf bytes) (a .0) (rw numbers l) refl refl)
 
 pub call-refused : (bytes lent : List ℕ) {q k : ℕ} → acceptAnswer bytes ≡ accept.Refused q k
     → TableCall bytes lent (Refused q k) lent
-call-refused bytes lent {q} {k} i =
-    let refusal = by-earlier (refused-answer bytes q k .0 i) in
-    call-by bytes lent (table-comes-out bytes (length lent) .refuses q k .1 refusal)
+call-refused bytes lent {q} {k} i = by-no bytes lent (by-earlier (refused-answer bytes q k .0 i))
 
 -- ---- what the answer says
 
