@@ -25,15 +25,11 @@ use denote.Index.{row, whole-out, whole-in, opens-slice}
 use denote.Lend.{Held, lends-slice, slice-back}
 use denote.Memory.{mem}
 use denote.RattleType.{RattleType}
-use denote.Ref.{RefT}
 use denote.Shadow.{pureL}
 use denote.Slice.{sliceVal, MutSlice, Room, finally, at-slice}
 use Rattle.race_list.proofs.LentOpen.{at-list, Open, closes}
 
 module _ (R : RattleType) (κ κ′ : Lft) (q : Share) (γ : GName) (b o : ℕ) where
-  abbrev at : GName → List (R .Denot) → RefT (List (R .Denot))
-  at δ ys = at-list R κ q γ b o δ ys
-
   abbrev pub LentAgain : GName → List (R .Denot) → Fml
   LentAgain γ₁ ys = fsep (flent κ′ (Held R (length ys) b o γ₁)) (Open R κ q γ b o ys)
 
@@ -44,16 +40,16 @@ module _ (R : RattleType) (κ κ′ : Lft) (q : Share) (γ : GName) (b o : ℕ) 
 
     -- the slice at κ, under the name γ, and at κ′, under the name γ₁
     abbrev Mine : List (R .Denot) → Fml
-    Mine zs = MutSlice ℓ κ R .own (at γ zs) vals
+    Mine zs = MutSlice ℓ κ R .own (at-list R b o γ zs) vals
 
     abbrev Theirs : GName → Fml
-    Theirs γ₁ = MutSlice ℓ′ κ′ R .own (at γ₁ ys) vals
+    Theirs γ₁ = MutSlice ℓ′ κ′ R .own (at-list R b o γ₁ ys) vals
 
     pub lends-again : ent 𝓤 (sep 𝓤 (sem 𝓤 H A (Mine ys)) (A .lft κ q))
         (H .⇛ (ex 𝓤 (λ (γ₁ : GName). sep 𝓤 (sem 𝓤 H A (Theirs γ₁)) (sem 𝓤 H A (LentAgain γ₁ ys)))))
     lends-again =
         qed W (‵ (Mine ys) ∷ ‵ (flft κ q) ∷ []) ∵ updating ! $ fsplit ! $
-        pureL ! (at-slice R (at γ ys) vals) (λ p. fsplit ! $ opens-slice ! tt R ys b o $
+        pureL ! (at-slice R (at-list R b o γ ys) vals) (λ p. fsplit ! $ opens-slice ! tt R ys b o $
         use1 W (‵ (cells (mem R) ys b o)) (whole-in 𝓤 H A W R ys b o) $
         use1 W (later (some (λ (γ₁ : GName). ‵ (Theirs γ₁) ⊛ ‵ (flent κ′ (Held R (length ys) b o γ₁)))))
         (lends-slice 𝓤 H A W R ℓ′ κ′ ys b o (p .1)) $

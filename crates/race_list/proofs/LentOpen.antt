@@ -23,10 +23,10 @@ use denote.Ref.{RefT}
 use denote.Shadow.{pureI}
 use denote.Slice.{sliceVal, MutSlice, heres, Room, at-slice, codedHoleys}
 
-module _ (R : RattleType) (κ : Lft) (q : Share) (γ : GName) (b o : ℕ) where
-  abbrev pub at-list : GName → List (R .Denot) → RefT (List (R .Denot))
-  at-list δ ys = record { ptr = (b, o); name = δ; now = ys }
+abbrev pub at-list : (R : RattleType) → ℕ → ℕ → GName → List (R .Denot) → RefT (List (R .Denot))
+at-list R b o δ ys = record { ptr = (b, o); name = δ; now = ys }
 
+module _ (R : RattleType) (κ : Lft) (q : Share) (γ : GName) (b o : ℕ) where
   abbrev pub Open : List (R .Denot) → Fml
   Open ys = fsep (fobor κ q (Held R (length ys) b o γ))
       (fsep (fobs γ (codedHoleys R .code (heres R ys))) (fauth γ (codedHoleys R .code (heres R ys))))
@@ -34,11 +34,11 @@ module _ (R : RattleType) (κ : Lft) (q : Share) (γ : GName) (b o : ℕ) where
   pub closes : {M : Type 1} (𝓤 : URA M) (H : Heap 𝓤) (A : Atoms 𝓤) (W : Given 𝓤 H A) (ℓ : Lifetime)
       (ys zs : List (R .Denot)) (m : ℕ) → length zs ≡ length ys → length ys ≡ m → Room R m
       → ent 𝓤 (sep 𝓤 (sem 𝓤 H A (row R fullShare zs b o)) (sem 𝓤 H A (Open ys)))
-      (H .⇛ (sep 𝓤 (sem 𝓤 H A (MutSlice ℓ κ R .own (at-list γ zs) (sliceVal (b, o) m ∷ []))) (A .lft κ q)))
+      (H .⇛ (sep 𝓤 (sem 𝓤 H A (MutSlice ℓ κ R .own (at-list R b o γ zs) (sliceVal (b, o) m ∷ []))) (A .lft κ q)))
   closes 𝓤 H A W ℓ ys zs m e i room =
       qed W (‵ (row R fullShare zs b o) ∷ ‵ (Open ys) ∷ []) ∵ updating ! $ move ! (1 ∷ []) $ fsplit ! $
       move ! (1 ∷ []) $ fsplit ! $ move ! (3 ∷ 2 ∷ 0 ∷ 1 ∷ []) $ closes-slice ! tt R ys zs e b o $ at-once ! $
       fjoin ! $
-      pureI ! (at-slice R (at-list γ zs) (sliceVal (b, o) m ∷ [])) (tt, (tt, tt))
+      pureI ! (at-slice R (at-list R b o γ zs) (sliceVal (b, o) m ∷ [])) (tt, (tt, tt))
       (ap (λ (k : ℕ). sliceVal (b, o) k ∷ []) (sym (e ∙ i)), subst (Room R) (sym (e ∙ i)) room) $
       fjoin ! $ done !

@@ -27,15 +27,11 @@ use denote.Index.{opens-slice}
 use denote.Lend.{lends-shr-slice}
 use denote.Memory.{shares}
 use denote.RattleType.{RattleType}
-use denote.Ref.{RefT}
 use denote.Shadow.{pureL}
 use denote.Slice.{sliceVal, MutSlice, ShrSlice, Room, at-slice}
 use Rattle.race_list.proofs.LentOpen.{at-list, Open, closes}
 
 module _ (R : RattleType) (κ κ′ : Lft) (q : Share) (γ : GName) (b o : ℕ) where
-  abbrev at : GName → List (R .Denot) → RefT (List (R .Denot))
-  at δ ys = at-list R κ q γ b o δ ys
-
   -- the lender's part
   abbrev Part : List (R .Denot) → Fml
   Part ys = arr-parts (shares R) (length ys) .part fullShare ys b o
@@ -50,16 +46,16 @@ module _ (R : RattleType) (κ κ′ : Lft) (q : Share) (γ : GName) (b o : ℕ) 
 
     -- the slice at κ, under the name γ, and as `&` at κ′, under the name γ₁, whose machine value counts k
     abbrev Mine : Fml
-    Mine = MutSlice ℓ κ R .own (at γ ys) vals
+    Mine = MutSlice ℓ κ R .own (at-list R b o γ ys) vals
 
     abbrev Theirs : GName → ℕ → Fml
-    Theirs γ₁ k = ShrSlice ℓ′ κ′ R .own (at γ₁ ys) (sliceVal (b, o) k ∷ [])
+    Theirs γ₁ k = ShrSlice ℓ′ κ′ R .own (at-list R b o γ₁ ys) (sliceVal (b, o) k ∷ [])
 
     pub lends-shared : ent 𝓤 (sep 𝓤 (sem 𝓤 H A Mine) (A .lft κ q))
         (H .⇛ (ex 𝓤 (λ (γ₁ : GName). sep 𝓤 (sem 𝓤 H A (Theirs γ₁ m)) (sem 𝓤 H A (LentShared ys)))))
     lends-shared =
         qed W (‵ Mine ∷ ‵ (flft κ q) ∷ []) ∵ updating ! $ fsplit ! $
-        pureL ! (at-slice R (at γ ys) vals) (λ p. fsplit ! $ opens-slice ! tt R ys b o $
+        pureL ! (at-slice R (at-list R b o γ ys) vals) (λ p. fsplit ! $ opens-slice ! tt R ys b o $
         feqI ! ℕ (length ys) (length ys) refl $ fjoin ! $
         use1 W (later (some (λ (γ₁ : GName). ‵ (Theirs γ₁ (length ys)) ⊛ ‵ (flent κ′ (Part ys)))))
         (lends-shr-slice 𝓤 H A W R ℓ′ κ′ fullShare ys b o (p .1)) $
