@@ -1,6 +1,6 @@
 -- Runs in which the lowest-numbered worker goes first, and the run that holds an operation back.
 -- Follows: document 01, "Two runs": worker by worker, and by each worker's next operation.
--- Differs: what is excluded is a predicate of operations: "other than b", then nothing. What is done, d, is read as a
+-- Differs: what is excluded is a predicate of operations: b alone, then nothing. What is done, d, is read as a
 -- set; the latest stands first in it.
 use mathlib.Core.List.{List, [], _∷_, _++_}
 use mathlib.Core.Path.{_≡_}
@@ -35,7 +35,7 @@ pub data LowestFirstRun (t : Trace) (excluded : ℕ → Type 0) : List ℕ → L
       → ((lower y : ℕ) → lower < q → CanMove t excluded d lower y → ⊥)
       → LowestFirstRun t excluded (x ∷ d) s → LowestFirstRun t excluded d (x ∷ s)
 
--- other than b; nothing
+-- what is excluded: b alone; nothing
 abbrev pub Only : ℕ → ℕ → Type 0
 Only b x = x ≡ b
 
