@@ -3,7 +3,6 @@
 use libc::STDOUT_FILENO;
 use report_text::FILE_SIZE;
 use report_text::TEXT_SIZE;
-use streams::Input;
 
 // Prints the report of a file's bytes to standard output; where that fails, says so on standard error.
 fn print_report(file: &[u8]) {
@@ -18,8 +17,11 @@ fn print_report(file: &[u8]) {
 // descriptor's name, and prints nothing else.
 pub fn report_from(fd: i32, name: &[u8]) {
     let mut buffer = [0u8; FILE_SIZE];
-    match streams::read_up_to(fd, &mut buffer) {
-        Input::Read { count } => print_report(&buffer[..count]),
-        Input::Failed => os::fail(name),
+    let input = streams::read_up_to(fd, &mut buffer);
+    let count = input.count;
+    if input.whole {
+        print_report(&buffer[..count]);
+        return;
     }
+    os::fail(name);
 }

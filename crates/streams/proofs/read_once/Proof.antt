@@ -1,7 +1,7 @@
 -- `read_once` meets its contract: the read is lent the part behind the first `count` bytes.
 -- Assumes what is assumed of the C library.
 use borrow.Author.Needs.{needs}
-use Rattle.streams.proofs.Transfers.{front-kept}
+use Rattle.streams.proofs.Steps.{front-kept}
 use Rattle.streams.proofs.read_once.Statement.{statement}
 use Rattle.streams.proofs.read_once.Tie as tie
 
@@ -20,8 +20,8 @@ read-requires c κs = search needs
 error-after-requires : tie.Need-error-after-requires
 error-after-requires c κs = search needs
 
-transfer-of-requires : tie.Need-transfer-of-requires
-transfer-of-requires c κs = search needs
+step-after-requires : tie.Need-step-after-requires
+step-after-requires c κs = search needs
 
 same-length : tie.Need-same-length
 same-length c = search needs
@@ -30,7 +30,7 @@ returns : tie.Need-returns
 returns c =
     let c8 = c .before .before .before .before .before .before .before .before in
     record {
-      within = c .transfer-of .ensures .1;
+      within = c .step-after .ensures .1;
       kept = front-kept (c8 .args .buffer .now) _ (c8 .args .count) (c8 .pre);
     }
 
@@ -43,6 +43,6 @@ read-once-spec =
     part-read-end
     read-requires
     error-after-requires
-    transfer-of-requires
+    step-after-requires
     same-length
     returns)

@@ -1,12 +1,12 @@
--- `transfer_of` meets its contract: by the sign of the answer, and by the error.
+-- `step_after` meets its contract: by the sign of the answer, and by the error.
 -- Assumes nothing.
 use mathlib.Core.Path.{sym, ap, _∙_}
 use lib.ListN.{length}
 use borrow.Author.Needs.{needs}
-use Rattle.streams.proofs.Transfers.{transfer-interrupted, transfer-failed, transfer-ended, transfer-moved}
-use Rattle.streams.proofs.Transfers.{transfer-told, more-counted}
-use Rattle.streams.proofs.transfer_of.Statement.{statement}
-use Rattle.streams.proofs.transfer_of.Tie as tie
+use Rattle.streams.proofs.Steps.{step-interrupted, step-failed, step-ended, step-moved}
+use Rattle.streams.proofs.Steps.{step-told, more-counted}
+use Rattle.streams.proofs.step_after.Statement.{statement}
+use Rattle.streams.proofs.step_after.Tie as tie
 use mir.Facts.{toZ-ofZ}
 use mir.Syntax.{w32, w64}
 use mir.Val.{toZ, ofZ}
@@ -18,8 +18,8 @@ returns c =
     let a = c3 .args in
     let negative = rw (toZ-ofZ (c3 .fits .got)) at (c1 .if1 .taken) in
     let interruption = sym (toZ-ofZ (c3 .fits .error)) ∙ ap (toZ w32) (c .if2 .taken) in
-    transfer-told (length (a .bytes .now)) (a .count) (a .got) (a .error) (c3 .pre)
-    (transfer-interrupted _ _ (a .got) (a .error) negative interruption)
+    step-told (a .reading) (length (a .bytes .now)) (a .count) (a .got) (a .error) (c3 .pre)
+    (step-interrupted _ _ _ (a .got) (a .error) negative interruption)
 
 returns-2 : tie.Need-returns-2
 returns-2 c =
@@ -27,16 +27,16 @@ returns-2 c =
     let c3 = c1 .before .before in
     let a = c3 .args in
     let negative = rw (toZ-ofZ (c3 .fits .got)) at (c1 .if1 .taken) in
-    transfer-told (length (a .bytes .now)) (a .count) (a .got) (a .error) (c3 .pre)
-    (transfer-failed _ _ (a .got) (a .error) negative (λ e. c .if2 .left (ap (ofZ w32) e)))
+    step-told (a .reading) (length (a .bytes .now)) (a .count) (a .got) (a .error) (c3 .pre)
+    (step-failed _ _ _ (a .got) (a .error) negative (λ e. c .if2 .left (ap (ofZ w32) e)))
 
 returns-3 : tie.Need-returns-3
 returns-3 c =
     let c3 = c .before .before .before in
     let a = c3 .args in
     let none = sym (toZ-ofZ (c3 .fits .got)) ∙ ap (toZ w64) (c .if3 .taken) in
-    transfer-told (length (a .bytes .now)) (a .count) (a .got) (a .error) (c3 .pre)
-    (transfer-ended _ _ (a .error) none)
+    step-told (a .reading) (length (a .bytes .now)) (a .count) (a .got) (a .error) (c3 .pre)
+    (step-ended _ _ _ (a .error) none)
 
 sub-count : tie.Need-sub-count
 sub-count c = search needs
@@ -50,8 +50,8 @@ part-count-end c = search needs
 count-requires : tie.Need-count-requires
 count-requires c κs = search needs
 
-add-t9 : tie.Need-add-t9
-add-t9 c = search needs
+add-t10 : tie.Need-add-t10
+add-t10 c = search needs
 
 returns-4 : tie.Need-returns-4
 returns-4 c =
@@ -61,11 +61,11 @@ returns-4 c =
     let a = c5 .args in
     let positive = rw (toZ-ofZ (c5 .fits .got)) at (c3 .if1 .left) in
     let more = more-counted (a .bytes .now) (a .count) (c5 .pre) (toZ-ofZ (c5 .fits .got)) (c .count .ensures .1) in
-    transfer-told (length (a .bytes .now)) (a .count) (a .got) (a .error) (c5 .pre)
-    (transfer-moved _ _ (a .got) (a .error) positive (λ e. c2 .if3 .left (ap (ofZ w64) e)) more)
+    step-told (a .reading) (length (a .bytes .now)) (a .count) (a .got) (a .error) (c5 .pre)
+    (step-moved _ _ _ (a .got) (a .error) positive (λ e. c2 .if3 .left (ap (ofZ w64) e)) more)
 
-pub transfer-of-spec : {M : Type 1} → statement M
-transfer-of-spec =
+pub step-after-spec : {M : Type 1} → statement M
+step-after-spec =
     tie.close
     (tie.spec
     returns
@@ -75,5 +75,5 @@ transfer-of-spec =
     part-count-start
     part-count-end
     count-requires
-    add-t9
+    add-t10
     returns-4)
