@@ -6,10 +6,11 @@
 use mathlib.Core.Bool.{Bool, false, cond}
 use mathlib.Core.List.{List}
 use mathlib.Core.Path.{_≡_}
-use Prim.Native.Nat.{ℕ, zero, suc, _+_, _-_, _≤_, min}
+use Prim.Native.Nat.{ℕ, zero, suc, _+_, _-_, _≤_}
 use lib.Dec.{eqb}
 use lib.IntN.{ℤ, pos, negsuc}
 use lib.ListN.{length, take}
+use Rattle.libc.specs.Io.{Moved}
 use Rattle.streams.specs.declared.Step.{Step}
 use Rattle.streams.specs.declared.Step.the-variants.{Again, Done}
 
@@ -18,14 +19,19 @@ abbrev pub isInterruption : ℤ → Bool
 isInterruption (pos n) = eqb n 4
 isInterruption (negsuc k) = false
 
--- after the call that was to move all of `all` bytes but the first `count`, by what it answered, and by its error: a
--- call that was interrupted moved none and is made again, and one that failed otherwise ends it all, before the whole;
--- 0 is the end of the input in reading, and in writing a failure; else so many more bytes are moved, as far as there
--- are, and the next call is for those behind them
-abbrev pub stepAfter : ℤ → ℤ → Bool → ℕ → ℕ → Step
-stepAfter (negsuc k) error reading all count = cond (isInterruption error) (Again count) (Done count false)
-stepAfter (pos zero) error reading all count = Done count reading
-stepAfter (pos (suc k)) error reading all count = Again (count + min (suc k) (all - count))
+-- what a call may answer that is handed the bytes behind the first `count` of `all`: −1, or how many of them it moved
+pub record AnswersBehind (all count : ℕ) (got : ℤ) : Type 0 where
+  pub inside : count ≤ all
+  pub moved : Moved (all - count) got
+
+-- after a call that was handed the bytes behind the first `count`, by what it answered, and by its error: a call that
+-- was interrupted moved none and is made again, and one that failed otherwise ends it all, before the whole; 0 is the
+-- end of the input in reading, and in writing a failure; else so many more bytes are moved, and the next call is for
+-- those behind them
+abbrev pub stepAfter : ℤ → ℤ → Bool → ℕ → Step
+stepAfter (negsuc k) error reading count = cond (isInterruption error) (Again count) (Done count false)
+stepAfter (pos zero) error reading count = Done count reading
+stepAfter (pos (suc k)) error reading count = Again (count + suc k)
 
 -- no more than `most` bytes are moved
 abbrev pub StepWithin : Step → ℕ → Type 0

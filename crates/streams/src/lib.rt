@@ -3,7 +3,7 @@
 ghost use mathlib.Core.Path.{_≡_};
 ghost use Prim.Native.Nat.{_≤_};
 ghost use lib.ListN.{length};
-ghost use Rattle.streams.specs.Streams.{stepAfter, StepWithin, ReadBehind};
+ghost use Rattle.streams.specs.Streams.{AnswersBehind, stepAfter, StepWithin, ReadBehind};
 
 // What reading gave: how many bytes were read, and whether that is all that was to be read, up to the input's end or as
 // many as there was room for. It is not where a read failed.
@@ -22,9 +22,8 @@ enum Step {
 // What comes after a call that was to move the bytes behind the first `count`, answered `got`, and left `error`. One
 // that moves none is the end of the input in `reading`, and in writing a failure.
 fn step_after(got: isize, error: i32, reading: bool, bytes: &[u8], count: usize) -> Step
-    requires { ⌜ count ≤ length (now bytes) ⌝ }
-    ensures { λ r. ⌜ (r ≡ stepAfter got error reading (length (now (bytes .entry))) count)
-        × StepWithin r (length (now (bytes .entry))) ⌝ }
+    requires { ⌜ AnswersBehind (length (now bytes)) count got ⌝ }
+    ensures { λ r. ⌜ (r ≡ stepAfter got error reading count) × StepWithin r (length (now (bytes .entry))) ⌝ }
 {
     if got < 0 {
         if error == libc::EINTR {

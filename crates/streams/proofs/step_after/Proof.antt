@@ -18,8 +18,8 @@ returns c =
     let a = c3 .args in
     let negative = rw (toZ-ofZ (c3 .fits .got)) at (c1 .if1 .taken) in
     let interruption = sym (toZ-ofZ (c3 .fits .error)) ∙ ap (toZ w32) (c .if2 .taken) in
-    step-told (a .reading) (length (a .bytes .now)) (a .count) (a .got) (a .error) (c3 .pre)
-    (step-interrupted _ _ _ (a .got) (a .error) negative interruption)
+    step-told (a .reading) (a .count) (a .got) (a .error) (c3 .pre)
+    (step-interrupted _ _ (a .got) (a .error) negative interruption)
 
 returns-2 : tie.Need-returns-2
 returns-2 c =
@@ -27,16 +27,16 @@ returns-2 c =
     let c3 = c1 .before .before in
     let a = c3 .args in
     let negative = rw (toZ-ofZ (c3 .fits .got)) at (c1 .if1 .taken) in
-    step-told (a .reading) (length (a .bytes .now)) (a .count) (a .got) (a .error) (c3 .pre)
-    (step-failed _ _ _ (a .got) (a .error) negative (λ e. c .if2 .left (ap (ofZ w32) e)))
+    step-told (a .reading) (a .count) (a .got) (a .error) (c3 .pre)
+    (step-failed _ _ (a .got) (a .error) negative (λ e. c .if2 .left (ap (ofZ w32) e)))
 
 returns-3 : tie.Need-returns-3
 returns-3 c =
     let c3 = c .before .before .before in
     let a = c3 .args in
     let none = sym (toZ-ofZ (c3 .fits .got)) ∙ ap (toZ w64) (c .if3 .taken) in
-    step-told (a .reading) (length (a .bytes .now)) (a .count) (a .got) (a .error) (c3 .pre)
-    (step-ended _ _ _ (a .error) none)
+    step-told (a .reading) (a .count) (a .got) (a .error) (c3 .pre)
+    (step-ended _ _ (a .error) none)
 
 sub-count : tie.Need-sub-count
 sub-count c = search needs
@@ -60,9 +60,10 @@ returns-4 c =
     let c5 = c3 .before .before in
     let a = c5 .args in
     let positive = rw (toZ-ofZ (c5 .fits .got)) at (c3 .if1 .left) in
-    let more = more-counted (a .bytes .now) (a .count) (c5 .pre) (toZ-ofZ (c5 .fits .got)) (c .count .ensures .1) in
-    step-told (a .reading) (length (a .bytes .now)) (a .count) (a .got) (a .error) (c5 .pre)
-    (step-moved _ _ _ (a .got) (a .error) positive (λ e. c2 .if3 .left (ap (ofZ w64) e)) more)
+    let got = toZ-ofZ (c5 .fits .got) in
+    let more = more-counted (a .bytes .now) (a .count) (c5 .pre .inside) got (c .count .ensures .1) in
+    step-told (a .reading) (a .count) (a .got) (a .error) (c5 .pre)
+    (step-moved _ _ (a .got) (a .error) (c5 .pre) positive (λ e. c2 .if3 .left (ap (ofZ w64) e)) more)
 
 pub step-after-spec : {M : Type 1} → statement M
 step-after-spec =

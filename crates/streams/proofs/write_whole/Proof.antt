@@ -1,8 +1,10 @@
 -- `write_whole` is safe and ends: no more is written than there is, and each time there are fewer calls left.
 -- Assumes what is assumed of the C library.
+use mathlib.Core.Path.{refl}
 use Prim.Native.Nat.{_≤_}
 use lib.ListN.{length}
 use borrow.Author.Needs.{needs}
+use Rattle.streams.proofs.Steps.{answers-behind}
 use Rattle.streams.proofs.write_whole.Statement.{statement}
 use Rattle.streams.proofs.write_whole.Tie as tie
 
@@ -34,7 +36,11 @@ error-after-requires : tie.Need-error-after-requires Inv-loop μ-loop
 error-after-requires c κs = search needs
 
 step-after-requires : tie.Need-step-after-requires Inv-loop μ-loop
-step-after-requires c κs = search needs
+step-after-requires c κs =
+    let c1 = c .before in
+    let c5 = c1 .before .before .before .before in
+    let bytes = c5 .before .before .args .bytes .now in
+    answers-behind bytes _ (c1 .write .result) refl (c5 .loop .inv) (search needs) (c1 .write .ensures)
 
 enum-known-next : tie.Need-enum-known-next Inv-loop μ-loop
 enum-known-next c = search needs
