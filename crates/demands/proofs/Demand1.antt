@@ -1,6 +1,6 @@
 -- The customer's demand 1, sentence by sentence, as theorems about what the calls answer and leave in lent memory, at
 -- any file bytes and lent memory: by the definitions that their contracts equal, or, of the calls that write, by their
--- promises (`TableCall`, `RunsCall`, `ListCall`, `RacesCall`, `CanonicalCall`). Of the report it is in Report.
+-- promises (`TableCall`, `RunsCall`, `ListCall`, `RacesCall`, `CanonicalCall`). Those of the report are in Report.
 use mathlib.Core.List.{List}
 use mathlib.Core.Logic.{_⊎_, _↔_, _≢_}
 use mathlib.Core.Path.{_≡_, refl, sym, _∙_}
