@@ -1,7 +1,6 @@
 -- The customer's demand 1, sentence by sentence, as theorems about what the calls answer and leave in lent memory, at
 -- any file bytes and lent memory: by the definitions that their contracts equal, or, of the calls that write, by their
--- promises (`TableCall`, `RunsCall`, `ListCall`, `RacesCall`, `CanonicalCall`). A sentence is stated of the calls that
--- there are.
+-- promises (`TableCall`, `RunsCall`, `ListCall`, `RacesCall`, `CanonicalCall`). Those of the report are in Report.
 use mathlib.Core.List.{List}
 use mathlib.Core.Logic.{_⊎_, _↔_, _≢_}
 use mathlib.Core.Path.{_≡_, refl, sym, _∙_}
@@ -39,9 +38,9 @@ use Rattle.two_runs.proofs.Answers as two-runs-answers
 use Rattle.two_runs.proofs.Answers.{call-unpaired, runs-refused}
 use Rattle.two_runs.proofs.Buffers.{after-lengths}
 use Rattle.two_runs.proofs.Questions.{runs-comes-out, refused-runs-number}
-use Rattle.beginning.specs.Computed.{beginningOf, numbersOf, startOf, BeginningCall}
+use Rattle.beginning.specs.Computed.{prefixOf, beginningOf, asPrefix, numbersOf, startOf, BeginningCall}
 use Rattle.beginning.specs.Returned.{Part, Returned}
-use Rattle.beginning.proofs.Beginnings.{beginning-returned, call-returned}
+use Rattle.beginning.proofs.Beginnings.{beginning-returned, prefix-returned, call-returned}
 use Rattle.race_search.specs.declared.Race.{Race}
 use Rattle.races.specs.declared.RacesAnswer.{RacesAnswer}
 use Rattle.races.specs.declared.RacesAnswer.the-variants as races
@@ -314,3 +313,8 @@ pub beginning-shows : {first second : List ℕ} {chosen other : ℕ} {x : Part} 
     → BeginningCall first second chosen other atFirst atSecond numbers start
     ↔ ((numbers ≡ numbersOf x) × (start ≡ startOf atFirst atSecond x))
 beginning-shows r atFirst atSecond numbers start = call-returned _ _ _ _ r
+
+-- `which_prefix` answers which list that part is of, and how many numbers it has:
+pub prefix-answers : {first second : List ℕ} {chosen other : ℕ} {x : Part} → Returned first second chosen other x
+    → prefixOf first second chosen other ≡ asPrefix x
+prefix-answers r = prefix-returned _ _ _ _ r

@@ -1,6 +1,6 @@
 -- The customer's demand 2, sentence by sentence, as theorems about what the calls answer and leave in lent memory, at
 -- any file bytes and lent memory: by the definitions that their contracts equal, or, of the calls that write, by their
--- promises (`TableCall`, `ListCall`, `RacesCall`, `CanonicalCall`). A sentence is stated of the calls that there are.
+-- promises (`TableCall`, `ListCall`, `RacesCall`, `CanonicalCall`). Those of the report are in Report.
 use mathlib.Core.List.{List}
 use mathlib.Core.Logic.{_↔_, _≢_, Iff·trans}
 use mathlib.Core.Path.{_≡_, sym, ap, _∙_}
@@ -8,16 +8,17 @@ use native.Mathlib.Nat.{le-refl}
 use native.Mathlib.Omega.{arith}
 use Prim.Native.Nat.{ℕ, _+_, _*_, _<_, _≤_}
 use lib.ListN.{length, getD, take}
-use Rattle.runs.specs.Membership.{_∈_, _∉_}
+use Rattle.runs.specs.Membership.{_∈_, _∉_, _⊆_, SameOperations}
 use Rattle.runs.specs.Workers.{count}
 use Rattle.trace.specs.Form.{base}
 use Rattle.trace.specs.Reading.{reads, fileReading}
 use Rattle.trace.specs.Refusals.{Refusal, one-to-four, five-to-nine}
 use Rattle.trace.specs.Trace.{Trace, size, workerOf, rank}
 use Rattle.trace.proofs.Refusals.{file-refused-first, file-refused}
-use Rattle.model.specs.LargestRuns.{MaximalExecution, LargestRun, LowestOutside}
+use Rattle.model.specs.LargestRuns.{MaximalExecution, ContainsAllowed, LargestRunWithout, LargestRun, LowestOutside}
 use Rattle.model.specs.Orders.{MustPrecedeIn}
-use Rattle.model.specs.Runs.{CompleteRunOf, NoCompleteRun}
+use Rattle.model.specs.Runs.{RunOf, CompleteRunOf, NoCompleteRun}
+use Rattle.model.proofs.Largest.{execution-largest, execution-definition, execution-contains, execution-same}
 use Rattle.model.proofs.Largest.{execution-exists, execution-nothing}
 use Rattle.model.proofs.SharedOrder.{unordered-executions}
 use Rattle.accept.specs.Acceptance.{AcceptedTrace, acceptAnswer}
@@ -78,6 +79,22 @@ module _ {bytes : List ℕ} {t : Trace} (h : AcceptedTrace bytes t) {lent now : 
 -- There is a maximal valid execution without k, whatever k is:
 pub execution-without : (t : Trace) (k : ℕ) → (m : List ℕ) × MaximalExecution t k m
 execution-without t k = execution-exists t k
+
+-- Of every trace, and so of an accepted file's, whatever a is: a maximal valid execution without a is that of report
+-- 1084's Definition 1, in the report's words (`ContainsAllowed`), and document 01's "run lacking a with the most
+-- operations"; "its set is unique and contains every run lacking a".
+module _ (t : Trace) {a : ℕ} {m : List ℕ} where
+  pub execution-by-definition : MaximalExecution t a m ↔ (RunOf t m × (a ∉ m) × ContainsAllowed t a m)
+  execution-by-definition = execution-definition t
+
+  pub execution-has-most : MaximalExecution t a m ↔ LargestRunWithout t a m
+  execution-has-most = execution-largest t
+
+  pub execution-set-unique : {k : List ℕ} → MaximalExecution t a m → MaximalExecution t a k → SameOperations m k
+  execution-set-unique p q = execution-same t p q
+
+  pub execution-contains-runs : {r : List ℕ} → MaximalExecution t a m → RunOf t r → a ∉ r → r ⊆ m
+  execution-contains-runs p r n = execution-contains t p r n
 
 -- "The races [are those] of the maximal valid executions of Wisconsin report 1084."
 

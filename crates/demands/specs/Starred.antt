@@ -1,8 +1,8 @@
 -- The starred examples of document 01, one list, computed from file bytes by the definitions that the calls' contracts
 -- cite.
 -- Follows: document 01, "Examples". A and B, whose rows, orders, runs and races are starred there, are accepted.
--- Differs: nowhere. Beside the starred ones, marked *, it has tidy files, reports, refusals by questions 10 to 17, and
--- lent memory that just fits, is longer, or is too short.
+-- Differs: nowhere. Beside the starred ones, marked *, it has tidy files, reports, refusals by questions 10 to 17, lent
+-- memory that just fits, is longer, or is too short, and a worker without operations.
 use mathlib.Core.List.{List, [], _∷_, _++_}
 use mathlib.Core.Path.{_≡_, refl}
 use Prim.Native.Nat.{ℕ, _*_}
@@ -118,8 +118,14 @@ pub starred :
     -- A3*: "Chosen 5, other 3: 0 1 2 4 5", of the two buffers
     × (beginningOf (firstAfter fileA 3 5 (nines 7) (nines 9)) (secondAfter fileA 3 5 (nines 7) (nines 9)) 5 3
     ≡ ofSecond (0 ∷ 1 ∷ 2 ∷ 4 ∷ 5 ∷ []))
-    -- no operation 7; an operation and itself; an ordered pair, whatever the buffers; a buffer that is too short
+    -- no operation 7, as both numbers and as either; nor 65,539, whose low 16 bits are 3; E has no operation at all; an
+    -- operation and itself; an ordered pair, whatever the buffers; a buffer that is too short
     × (orderAnswer fileA 7 7 ≡ order.Refused 12 0)
+    × (orderAnswer fileA 7 0 ≡ order.Refused 12 0)
+    × (orderAnswer fileA 0 7 ≡ order.Refused 12 0)
+    × (orderAnswer fileA 65539 5 ≡ order.Refused 12 0)
+    × (runsAnswer fileA 3 65541 (nines 7) (nines 7) ≡ runs.Refused 12 0)
+    × (orderAnswer fileE 0 1 ≡ order.Refused 12 0)
     × (orderAnswer fileA 3 3 ≡ order.Refused 13 0)
     × (runsAnswer fileA 0 3 [] [] ≡ runs.Refused 14 0)
     × (runsAnswer fileA 3 5 (nines 6) (nines 7) ≡ runs.Refused 15 0)
@@ -145,6 +151,10 @@ pub starred :
     × (tableAfter fileC (nines 8) ≡ nines 8)
     × (tableAnswer fileE [] ≡ Filled 1 0)
     × (tableAfter fileE [] ≡ [])
+    -- a worker without operations, worker 1: its column is 0; and two runs beside it
+    × (tableAfter mixed (nines 12) ≡ 2 ∷ 0 ∷ 0 ∷ 0 ∷ 0 ∷ 2 ∷ 2 ∷ 0 ∷ 1 ∷ 1 ∷ 0 ∷ 2 ∷ [])
+    × (firstAfter mixed 0 1 (nines 4) (nines 4) ≡ 0 ∷ 2 ∷ 1 ∷ 3 ∷ [])
+    × (secondAfter mixed 0 1 (nines 4) (nines 4) ≡ 1 ∷ 3 ∷ 0 ∷ 2 ∷ [])
     -- B2*: "race 0 4", and no other: in lists of just as many numbers, and longer; in lists of records
     × (racesAnswer fileB 15 1 ≡ Listed 3 5 1)
     × (racesListed fileB 15 1 ≡ pair 0 4 ∷ [])
@@ -192,6 +202,14 @@ unfolding value operationIn marked ranked isHeader workersFit headerQuestion ofW
     recordsBytes bytesOf byWorker canonicalBytes canonicalReading canonicalAnswer outputAfter decimalWithin decimal
     labelled countLine pairLine raceLines listing refusal reportText
 starred = (
+  refl,
+  refl,
+  refl,
+  refl,
+  refl,
+  refl,
+  refl,
+  refl,
   refl,
   refl,
   refl,

@@ -1,6 +1,6 @@
 -- Runs in which the lowest-numbered worker goes first, and the run that holds an operation back.
 -- Follows: document 01, "Two runs": worker by worker, and by each worker's next operation.
--- Differs: what is excluded is a predicate of operations: "other than b", then nothing. What is done, d, is read as a
+-- Differs: what is excluded is a predicate of operations: b alone, then nothing. What is done, d, is read as a
 -- set; the latest stands first in it.
 use mathlib.Core.List.{List, [], _∷_, _++_}
 use mathlib.Core.Path.{_≡_}

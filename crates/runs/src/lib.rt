@@ -1,0 +1,1 @@
+// No code: the theory of runs, in specs/ and proofs/.

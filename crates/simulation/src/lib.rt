@@ -1,0 +1,1 @@
+// No code: how a walk's state shows a run, in specs/ and proofs/.

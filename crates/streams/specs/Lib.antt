@@ -1,2 +1,2 @@
--- Streams: what a call of the system came to, which has to be believed; how many bytes a call can say that it moved.
+-- Streams: what comes after a call of the system, which has to be believed; how many bytes it can say that it moved.
 pub mod Streams

@@ -3,39 +3,45 @@
 ghost use mathlib.Core.Path.{_≡_};
 ghost use Prim.Native.Nat.{_≤_};
 ghost use lib.ListN.{length};
-ghost use Rattle.streams.specs.Streams.{transferAfter, TransferWithin, InputWithin, ReadBehind};
+ghost use Rattle.streams.specs.Streams.{AnswersBehind, stepAfter, StepWithin, ReadBehind};
 
-// What reading gave: how many bytes were read, up to the input's end or as many as there was room for; or that a read
-// failed.
-pub enum Input {
-    Read { count: usize },
-    Failed,
+// What reading gave: how many bytes were read, and whether that is all that was to be read, up to the input's end or as
+// many as there was room for. It is not where a read failed.
+pub struct Input {
+    pub count: usize,
+    pub whole: bool,
 }
 
-// What one call of the system came to: how many bytes are moved in all, that it moved none, or that it failed.
-enum Transfer {
-    Moved { count: usize },
-    Ended,
-    Failed,
+// What comes after one call of the system: one more call, behind the first `count` bytes; or none, and whether the
+// `count` bytes that are moved are all that were to be moved.
+enum Step {
+    Again { count: usize },
+    Done { count: usize, whole: bool },
 }
 
-// What a call came to that was to move the bytes behind the first `count`, answered `got`, and left `error`.
-fn transfer_of(got: isize, error: i32, bytes: &[u8], count: usize) -> Transfer
-    requires { ⌜ count ≤ length (now bytes) ⌝ }
-    ensures { λ r. ⌜ (r ≡ transferAfter got error (length (now (bytes .entry))) count)
-        × TransferWithin r (length (now (bytes .entry))) ⌝ }
+// What comes after a call that was to move the bytes behind the first `count`, answered `got`, and left `error`. One
+// that moves none is the end of the input in `reading`, and in writing a failure.
+fn step_after(got: isize, error: i32, reading: bool, bytes: &[u8], count: usize) -> Step
+    requires { ⌜ AnswersBehind (length (now bytes)) count got ⌝ }
+    ensures { λ r. ⌜ (r ≡ stepAfter got error reading count) × StepWithin r (length (now (bytes .entry))) ⌝ }
 {
     if got < 0 {
         if error == libc::EINTR {
-            return Transfer::Moved { count: count };
+            return Step::Again { count: count };
         }
-        return Transfer::Failed;
+        return Step::Done {
+            count: count,
+            whole: false,
+        };
     }
     if got == 0 {
-        return Transfer::Ended;
+        return Step::Done {
+            count: count,
+            whole: reading,
+        };
     }
     let more = io::count(got, &bytes[count..]);
-    Transfer::Moved {
+    Step::Again {
         count: count + more,
     }
 }
@@ -49,39 +55,45 @@ fn error_after(got: isize) -> i32 {
 }
 
 // One read, to the part of the buffer behind the `count` bytes that are read.
-fn read_once(fd: i32, buffer: &mut [u8], count: usize) -> Transfer
+fn read_once(fd: i32, buffer: &mut [u8], count: usize) -> Step
     requires { ⌜ count ≤ length (now buffer) ⌝ }
     ensures { λ r. ⌜ ReadBehind (now (buffer .entry)) count r (now (buffer .exit)) ⌝ }
 {
     let got = libc::read(fd, &mut buffer[count..]);
     let error = error_after(got);
-    transfer_of(got, error, buffer, count)
+    step_after(got, error, true, buffer, count)
 }
 
 // Reads up to the input's end, or until the buffer is full.
 pub fn read_up_to(fd: i32, buffer: &mut [u8]) -> Input
-    ensures { λ r. ⌜ InputWithin r (length (now (buffer .exit))) ⌝ }
+    ensures { λ r. ⌜ r .count ≤ length (now (buffer .exit)) ⌝ }
 {
     let mut count: usize = 0;
     let mut calls = u64::MAX;
     while 0 < calls {
         if buffer.len() <= count {
-            return Input::Read { count: count };
+            return Input {
+                count: count,
+                whole: true,
+            };
         }
         match read_once(fd, buffer, count) {
-            Transfer::Moved { count: next } => {
+            Step::Again { count: next } => {
                 count = next;
             }
-            Transfer::Ended => {
-                return Input::Read { count: count };
-            }
-            Transfer::Failed => {
-                return Input::Failed;
+            Step::Done { count: all, whole } => {
+                return Input {
+                    count: all,
+                    whole: whole,
+                };
             }
         }
         calls -= 1;
     }
-    Input::Failed
+    Input {
+        count: count,
+        whole: false,
+    }
 }
 
 // Writes all bytes, and answers whether it could.
@@ -94,15 +106,12 @@ pub fn write_whole(fd: i32, bytes: &[u8]) -> bool {
         }
         let got = libc::write(fd, &bytes[count..]);
         let error = error_after(got);
-        match transfer_of(got, error, bytes, count) {
-            Transfer::Moved { count: next } => {
+        match step_after(got, error, false, bytes, count) {
+            Step::Again { count: next } => {
                 count = next;
             }
-            Transfer::Ended => {
-                return false;
-            }
-            Transfer::Failed => {
-                return false;
+            Step::Done { count: _, whole } => {
+                return whole;
             }
         }
         calls -= 1;

@@ -12,32 +12,22 @@ slice-aggregate-read-up-to c = search needs
 read-up-to-requires : tie.Need-read-up-to-requires
 read-up-to-requires c κs = search needs
 
-enum-known-count : tie.Need-enum-known-count
-enum-known-count c = search needs
-
 array-share-prefix-buffer : tie.Need-array-share-prefix-buffer
-array-share-prefix-buffer c =
-    let c1 = c .before in
-    let c4 = c1 .before .before .before in
-    rw (c1 .count .given .1) at (c4 .read-up-to .ensures)
+array-share-prefix-buffer c = search needs
 
 slice-aggregate-print-report : tie.Need-slice-aggregate-print-report
 slice-aggregate-print-report c =
-    let c2 = c .before .before in
-    let c5 = c2 .before .before .before in
-    sym (length-take-le _ _ (rw (c2 .count .given .1) at (c5 .read-up-to .ensures)))
+    let c3 = c .before .before .before in
+    sym (length-take-le _ _ (c3 .read-up-to .ensures))
 
 print-report-requires : tie.Need-print-report-requires
 print-report-requires c κs = search needs
 
-enum-told : tie.Need-enum-told
-enum-told c = search needs
+returns : tie.Need-returns
+returns c = search needs
 
 fail-requires : tie.Need-fail-requires
 fail-requires c κs = search needs
-
-returns : tie.Need-returns
-returns c = search needs
 
 returns-2 : tie.Need-returns-2
 returns-2 c = search needs
@@ -48,11 +38,9 @@ report-from-spec =
     (tie.spec
     slice-aggregate-read-up-to
     read-up-to-requires
-    enum-known-count
     array-share-prefix-buffer
     slice-aggregate-print-report
     print-report-requires
-    enum-told
-    fail-requires
     returns
+    fail-requires
     returns-2)

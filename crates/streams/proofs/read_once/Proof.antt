@@ -1,7 +1,7 @@
 -- `read_once` meets its contract: the read is lent the part behind the first `count` bytes.
 -- Assumes what is assumed of the C library.
 use borrow.Author.Needs.{needs}
-use Rattle.streams.proofs.Transfers.{front-kept}
+use Rattle.streams.proofs.Steps.{answers-behind, front-kept}
 use Rattle.streams.proofs.read_once.Statement.{statement}
 use Rattle.streams.proofs.read_once.Tie as tie
 
@@ -20,8 +20,12 @@ read-requires c κs = search needs
 error-after-requires : tie.Need-error-after-requires
 error-after-requires c κs = search needs
 
-transfer-of-requires : tie.Need-transfer-of-requires
-transfer-of-requires c κs = search needs
+step-after-requires : tie.Need-step-after-requires
+step-after-requires c κs =
+    let c4 = c .before .before .before .before in
+    let c7 = c4 .before .before .before in
+    let buffer = c7 .args .buffer .now in
+    answers-behind buffer _ (c4 .read .result) (search needs) (c7 .pre) (search needs) (c4 .read .ensures)
 
 same-length : tie.Need-same-length
 same-length c = search needs
@@ -30,7 +34,7 @@ returns : tie.Need-returns
 returns c =
     let c8 = c .before .before .before .before .before .before .before .before in
     record {
-      within = c .transfer-of .ensures .1;
+      within = c .step-after .ensures .1;
       kept = front-kept (c8 .args .buffer .now) _ (c8 .args .count) (c8 .pre);
     }
 
@@ -43,6 +47,6 @@ read-once-spec =
     part-read-end
     read-requires
     error-after-requires
-    transfer-of-requires
+    step-after-requires
     same-length
     returns)

@@ -28,23 +28,17 @@ read-once-requires c κs = search needs
 enum-known-next : tie.Need-enum-known-next Inv-loop μ-loop
 enum-known-next c = search needs
 
-enum-told : tie.Need-enum-told Inv-loop μ-loop
-enum-told c = search needs
+enum-known-all : tie.Need-enum-known-all Inv-loop μ-loop
+enum-known-all c = search needs
 
 same-length-2 : tie.Need-same-length-2 Inv-loop μ-loop
 same-length-2 c = search needs
 
 returns-2 : tie.Need-returns-2 Inv-loop μ-loop
-returns-2 c = search needs
-
-enum-told-2 : tie.Need-enum-told-2 Inv-loop μ-loop
-enum-told-2 c = search needs
-
-same-length-3 : tie.Need-same-length-3 Inv-loop μ-loop
-same-length-3 c = search needs
-
-returns-3 : tie.Need-returns-3 Inv-loop μ-loop
-returns-3 c = search needs
+returns-2 c =
+    let c1 = c .before in
+    let c5 = c1 .before .before .before .before in
+    rw (c1 .all .given .1) at (c5 .read-once .ensures .within)
 
 sub-calls : tie.Need-sub-calls Inv-loop μ-loop
 sub-calls c = search needs
@@ -60,11 +54,11 @@ loop-again c =
     let size = c9 .loop .inv .1 in
     (rw (c1 .next .given .1) at (c5 .read-once .ensures .within), search needs)
 
-same-length-4 : tie.Need-same-length-4 Inv-loop μ-loop
-same-length-4 c = search needs
+same-length-3 : tie.Need-same-length-3 Inv-loop μ-loop
+same-length-3 c = search needs
 
-returns-4 : tie.Need-returns-4 Inv-loop μ-loop
-returns-4 c = search needs
+returns-3 : tie.Need-returns-3 Inv-loop μ-loop
+returns-3 c = search needs
 
 pub read-up-to-spec : {M : Type 1} → statement M
 read-up-to-spec =
@@ -77,14 +71,11 @@ read-up-to-spec =
     returns
     read-once-requires
     enum-known-next
-    enum-told
+    enum-known-all
     same-length-2
     returns-2
-    enum-told-2
-    same-length-3
-    returns-3
     sub-calls
     loop-less
     loop-again
-    same-length-4
-    returns-4)
+    same-length-3
+    returns-3)

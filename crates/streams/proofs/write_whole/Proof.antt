@@ -1,8 +1,10 @@
 -- `write_whole` is safe and ends: no more is written than there is, and each time there are fewer calls left.
 -- Assumes what is assumed of the C library.
+use mathlib.Core.Path.{refl}
 use Prim.Native.Nat.{_≤_}
 use lib.ListN.{length}
 use borrow.Author.Needs.{needs}
+use Rattle.streams.proofs.Steps.{answers-behind}
 use Rattle.streams.proofs.write_whole.Statement.{statement}
 use Rattle.streams.proofs.write_whole.Tie as tie
 
@@ -33,23 +35,21 @@ write-requires c κs = search needs
 error-after-requires : tie.Need-error-after-requires Inv-loop μ-loop
 error-after-requires c κs = search needs
 
-transfer-of-requires : tie.Need-transfer-of-requires Inv-loop μ-loop
-transfer-of-requires c κs = search needs
+step-after-requires : tie.Need-step-after-requires Inv-loop μ-loop
+step-after-requires c κs =
+    let c1 = c .before in
+    let c5 = c1 .before .before .before .before in
+    let bytes = c5 .before .before .args .bytes .now in
+    answers-behind bytes _ (c1 .write .result) refl (c5 .loop .inv) (search needs) (c1 .write .ensures)
 
 enum-known-next : tie.Need-enum-known-next Inv-loop μ-loop
 enum-known-next c = search needs
 
-enum-told : tie.Need-enum-told Inv-loop μ-loop
-enum-told c = search needs
+enum-known-whole : tie.Need-enum-known-whole Inv-loop μ-loop
+enum-known-whole c = search needs
 
 returns-2 : tie.Need-returns-2 Inv-loop μ-loop
 returns-2 c = search needs
-
-enum-told-2 : tie.Need-enum-told-2 Inv-loop μ-loop
-enum-told-2 c = search needs
-
-returns-3 : tie.Need-returns-3 Inv-loop μ-loop
-returns-3 c = search needs
 
 sub-calls : tie.Need-sub-calls Inv-loop μ-loop
 sub-calls c = search needs
@@ -61,10 +61,10 @@ loop-again : tie.Need-loop-again Inv-loop μ-loop
 loop-again c =
     let c1 = c .before in
     let c3 = c1 .before .before in
-    rw (c1 .next .given .1) at (c3 .transfer-of .ensures .1)
+    rw (c1 .next .given .1) at (c3 .step-after .ensures .1)
 
-returns-4 : tie.Need-returns-4 Inv-loop μ-loop
-returns-4 c = search needs
+returns-3 : tie.Need-returns-3 Inv-loop μ-loop
+returns-3 c = search needs
 
 pub write-whole-spec : {M : Type 1} → statement M
 write-whole-spec =
@@ -79,13 +79,11 @@ write-whole-spec =
     part-write-end
     write-requires
     error-after-requires
-    transfer-of-requires
+    step-after-requires
     enum-known-next
-    enum-told
+    enum-known-whole
     returns-2
-    enum-told-2
-    returns-3
     sub-calls
     loop-less
     loop-again
-    returns-4)
+    returns-3)
