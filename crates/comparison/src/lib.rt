@@ -1,0 +1,601 @@
+// Makes each call on a file, and compares what it answers and what it leaves in lent memory with what all runs say.
+use expected::Facts;
+use told::Told;
+
+// What was seen, counted by kind: calls by the number of their refusal, where 0 is success; from FILES on, files by the
+// number by which they are refused, where 0 is accepted; and the kinds below.
+pub const KINDS: usize = 64;
+
+pub const FILES: usize = 20;
+
+pub const MISMATCHES: usize = 40;
+
+pub const RUNS: usize = 41;
+
+pub const COMPLETE: usize = 42;
+
+pub const ORDERED: usize = 43;
+
+pub const UNORDERED: usize = 44;
+
+pub const RACES: usize = 45;
+
+pub const SHARED_EVENTS: usize = 46;
+
+pub const BEGINNINGS: usize = 47;
+
+pub fn count(seen: &mut [u64; KINDS], kind: usize, by: u64) {
+    seen[kind % KINDS] = seen[kind % KINDS] % 1000000000000 + by % 1000000000000;
+}
+
+// Counts a call for which `number` was due, and a mismatch where not all was as due.
+pub fn note(seen: &mut [u64; KINDS], number: u8, holds: bool) {
+    count(seen, number as usize % 18, 1);
+    if !holds {
+        count(seen, MISMATCHES, 1);
+    }
+}
+
+// Lent memory
+
+// What lent memory holds before a call; no call writes such numbers.
+fn filler(i: usize) -> u16 {
+    (i % 1000 + 30000) as u16
+}
+
+fn fill(memory: &mut [u16]) {
+    for i in 0..memory.len() {
+        memory[i] = filler(i);
+    }
+}
+
+// Does the memory hold the first `length` numbers that are due, and then what was there?
+fn holds(memory: &[u16], due: &[u16], length: usize) -> bool {
+    for i in 0..memory.len() {
+        let x = if i < length && i < due.len() {
+            due[i]
+        } else {
+            filler(i)
+        };
+        if memory[i] != x {
+            return false;
+        }
+    }
+    true
+}
+
+fn byte_filler(i: usize) -> u8 {
+    (i % 100 + 100) as u8
+}
+
+fn fill_bytes(memory: &mut [u8]) {
+    for i in 0..memory.len() {
+        memory[i] = byte_filler(i);
+    }
+}
+
+fn holds_bytes(memory: &[u8], due: &[u8], length: usize) -> bool {
+    for i in 0..memory.len() {
+        let x = if i < length && i < due.len() {
+            due[i]
+        } else {
+            byte_filler(i)
+        };
+        if memory[i] != x {
+            return false;
+        }
+    }
+    true
+}
+
+fn number(x: usize) -> u32 {
+    (x % 65536) as u32
+}
+
+fn more(n: usize, by: usize) -> usize {
+    n % 65536 + by % 16
+}
+
+fn less_one(n: usize) -> usize {
+    if 0 < n {
+        return n - 1;
+    }
+    0
+}
+
+// Reading a file
+
+fn accept_due(f: Facts) -> Told {
+    if f.number != 0 {
+        return told::refusal(f.number, f.place);
+    }
+    told::success(f.workers as u32, number(f.count), 0)
+}
+
+// The order table
+
+// How many numbers the table has: a row for each operation.
+fn table_size(f: Facts) -> usize {
+    let mut size: usize = 0;
+    for k in 0..8 {
+        if k < f.count {
+            size = size % 200 + f.workers as usize;
+        }
+    }
+    size
+}
+
+fn table_due(f: Facts, size: usize) -> Told {
+    if f.number == 0 && size < table_size(f) {
+        return told::refusal(11, 0);
+    }
+    accept_due(f)
+}
+
+fn table_call(seen: &mut [u64; KINDS], file: &[u8], f: Facts, rows: &[u16; 136], size: usize) {
+    let mut table = [0u16; 136];
+    fill(&mut table);
+    let told = told::told_table(file, &mut table, size);
+    let due = table_due(f, size);
+    let written = if due.number == 0 { table_size(f) } else { 0 };
+    note(
+        seen,
+        due.number,
+        told::same(told, due) && holds(&table, rows, written),
+    );
+}
+
+// The order of a pair
+
+fn order_due(f: Facts, orders: &[u32; 64], a: usize, b: usize) -> Told {
+    if f.number != 0 {
+        return told::refusal(f.number, f.place);
+    }
+    if f.count <= a || f.count <= b {
+        return told::refusal(12, 0);
+    }
+    if a == b {
+        return told::refusal(13, 0);
+    }
+    told::success(orders[a % 8 * 8 + b % 8], 0, 0)
+}
+
+// The beginning of a run
+
+fn operation(x: u16) -> usize {
+    x as usize
+}
+
+// Is x among the numbers from `from` on, and before `to`?
+fn appears(list: &[u16], from: usize, to: usize, x: usize) -> bool {
+    for i in from..to {
+        if i < list.len() && operation(list[i]) == x {
+            return true;
+        }
+    }
+    false
+}
+
+// How long the part is that ends with the first appearance of `chosen`, if the other number differs, appears after it
+// and not before it; else 0.
+fn part_due(list: &[u16], chosen: usize, other: usize) -> usize {
+    for i in 0..list.len() {
+        if operation(list[i]) == chosen {
+            let before = appears(list, 0, i, other);
+            let after = appears(list, i, list.len(), other);
+            return if chosen != other && after && !before {
+                i % 65536 + 1
+            } else {
+                0
+            };
+        }
+    }
+    0
+}
+
+fn is_start(part: &[u16], list: &[u16], length: usize) -> bool {
+    for i in 0..part.len() {
+        if list.len() <= i || part[i] != list[i] {
+            return false;
+        }
+    }
+    part.len() == length
+}
+
+// Is the beginning the part of the first list, failing that of the second, failing both the empty part?
+pub fn beginning_holds<'a>(
+    first: &'a [u16],
+    second: &'a [u16],
+    chosen: usize,
+    other: usize,
+) -> bool {
+    let of_first = part_due(first, chosen, other);
+    let of_second = part_due(second, chosen, other);
+    let part = beginning::beginning(first, second, number(chosen), number(other));
+    if 0 < of_first {
+        return is_start(part, first, of_first);
+    }
+    is_start(part, second, of_second)
+}
+
+// The two runs
+
+// Does the buffer start with the run that holds b back, a complete run with a before b, and then hold what was there?
+fn run_holds(file: &[u8], n: usize, a: usize, b: usize, buffer: &[u16]) -> bool {
+    let mut run = [0u16; 8];
+    let length = expected::held_back_run(file, b, &mut run);
+    if n <= buffer.len() {
+        let whole = &buffer[0..n];
+        let complete = expected::is_complete_run(file, whole) && 0 < part_due(whole, a, b);
+        return complete && holds(buffer, &run, length);
+    }
+    false
+}
+
+// Do the beginnings of two runs hold, with each of the two operations chosen, and with a number that is in neither?
+fn beginnings_hold<'a>(n: usize, a: usize, b: usize, first: &'a [u16], second: &'a [u16]) -> bool {
+    if n <= first.len() && n <= second.len() {
+        let run = &first[0..n];
+        let other = &second[0..n];
+        return beginning_holds(run, other, a, b)
+            && beginning_holds(run, other, b, a)
+            && beginning_holds(run, other, 9, b);
+    }
+    false
+}
+
+fn buffers_hold<'a>(
+    file: &[u8],
+    n: usize,
+    a: usize,
+    b: usize,
+    first: &'a [u16],
+    second: &'a [u16],
+) -> bool {
+    run_holds(file, n, a, b, first)
+        && run_holds(file, n, b, a, second)
+        && beginnings_hold(n, a, b, first, second)
+}
+
+// What is due from the two runs, where `order` is due from the pair order.
+fn runs_due(order: Told, n: usize, first_size: usize, second_size: usize) -> Told {
+    if order.number != 0 {
+        return order;
+    }
+    if order.x != 0 {
+        return told::refusal(14, 0);
+    }
+    if first_size < n || second_size < n {
+        return told::refusal(15, 0);
+    }
+    told::success(number(n), 0, 0)
+}
+
+fn runs_call(
+    seen: &mut [u64; KINDS],
+    file: &[u8],
+    a: usize,
+    b: usize,
+    due: Told,
+    first_size: usize,
+    second_size: usize,
+) {
+    let mut first = [0u16; 12];
+    let mut second = [0u16; 12];
+    fill(&mut first);
+    fill(&mut second);
+    let told = told::told_runs(
+        file,
+        number(a),
+        number(b),
+        &mut first,
+        first_size,
+        &mut second,
+        second_size,
+    );
+    let memory = if due.number == 0 {
+        buffers_hold(file, due.x as usize, a, b, &first, &second)
+    } else {
+        holds(&first, &first, 0) && holds(&second, &second, 0)
+    };
+    note(seen, due.number, told::same(told, due) && memory);
+    if due.number == 0 {
+        count(seen, BEGINNINGS, 3);
+    }
+}
+
+// A size that just fits n numbers, that is larger, or that is too small.
+fn room(n: usize, way: usize) -> usize {
+    if way % 3 == 0 {
+        return n;
+    }
+    if way % 3 == 1 {
+        return more(n, 3);
+    }
+    less_one(n)
+}
+
+fn count_order(seen: &mut [u64; KINDS], order: Told) {
+    if order.number == 0 && order.x == 0 {
+        count(seen, UNORDERED, 1);
+    }
+    if order.number == 0 && order.x != 0 {
+        count(seen, ORDERED, 1);
+    }
+}
+
+// The pair order and the two runs of a and b; `way` decides on the sizes of the buffers.
+fn pair_call(
+    seen: &mut [u64; KINDS],
+    file: &[u8],
+    f: Facts,
+    orders: &[u32; 64],
+    a: usize,
+    b: usize,
+    way: usize,
+) {
+    let n = f.count;
+    let order = order_due(f, orders, a, b);
+    note(
+        seen,
+        order.number,
+        told::same(told::told_order(file, number(a), number(b)), order),
+    );
+    count_order(seen, order);
+    let first_size = room(n, way);
+    let second_size = room(n, way / 3);
+    let due = runs_due(order, n, first_size, second_size);
+    runs_call(seen, file, a, b, due, first_size, second_size);
+}
+
+// Each pair of numbers up to the operation count; of a refused file only of 0 and 1.
+fn pair_calls(seen: &mut [u64; KINDS], file: &[u8], f: Facts, orders: &[u32; 64], way: usize) {
+    let most = if f.number == 0 { f.count } else { 1 };
+    for i in 0..81 {
+        if i / 9 <= most && i % 9 <= most {
+            pair_call(seen, file, f, orders, i / 9, i % 9, way % 9 + i);
+        }
+    }
+}
+
+// The race list
+
+// What is due from the race list, where `table` is due from the order table.
+fn races_due(table: Told, races: usize, lower_size: usize, higher_size: usize) -> Told {
+    if table.number != 0 {
+        return table;
+    }
+    if lower_size < races || higher_size < races {
+        return told::refusal(16, number(races));
+    }
+    told::success(table.x, table.y, number(races))
+}
+
+// Do the two lists hold all races after success, and else what was there?
+fn lists_hold(file: &[u8], orders: &[u32; 64], due: Told, lower: &[u16], higher: &[u16]) -> bool {
+    let mut lower_due = [0u16; 28];
+    let mut higher_due = [0u16; 28];
+    let races = expected::races_of(file, orders, &mut lower_due, &mut higher_due);
+    let written = if due.number == 0 { races } else { 0 };
+    holds(lower, &lower_due, written) && holds(higher, &higher_due, written)
+}
+
+fn races_call(
+    seen: &mut [u64; KINDS],
+    file: &[u8],
+    rows: &[u16; 136],
+    rows_size: usize,
+    orders: &[u32; 64],
+    due: Told,
+    table_size: usize,
+    lower_size: usize,
+    higher_size: usize,
+) {
+    let mut table = [0u16; 136];
+    let mut lower = [0u16; 34];
+    let mut higher = [0u16; 34];
+    fill(&mut table);
+    fill(&mut lower);
+    fill(&mut higher);
+    let told = told::told_races(
+        file,
+        &mut table,
+        table_size,
+        &mut lower,
+        lower_size,
+        &mut higher,
+        higher_size,
+    );
+    let filled = if due.number == 0 || due.number == 16 {
+        rows_size
+    } else {
+        0
+    };
+    let memory = holds(&table, rows, filled) && lists_hold(file, orders, due, &lower, &higher);
+    note(seen, due.number, told::same(told, due) && memory);
+}
+
+// Three sizes: of the table and of the two lists.
+fn race_call(
+    seen: &mut [u64; KINDS],
+    file: &[u8],
+    f: Facts,
+    rows: &[u16; 136],
+    orders: &[u32; 64],
+    races: usize,
+    room: usize,
+    lower_size: usize,
+    higher_size: usize,
+) {
+    let due = races_due(table_due(f, room), races, lower_size, higher_size);
+    let size = table_size(f);
+    races_call(
+        seen,
+        file,
+        rows,
+        size,
+        orders,
+        due,
+        room,
+        lower_size,
+        higher_size,
+    );
+}
+
+fn race_count(file: &[u8], f: Facts, orders: &[u32; 64]) -> usize {
+    let mut lower = [0u16; 28];
+    let mut higher = [0u16; 28];
+    if f.number != 0 {
+        return 0;
+    }
+    expected::races_of(file, orders, &mut lower, &mut higher)
+}
+
+// Space that just fits, that is longer, that is too short in one list or the other, and a table that is too short.
+fn race_calls(
+    seen: &mut [u64; KINDS],
+    file: &[u8],
+    f: Facts,
+    rows: &[u16; 136],
+    orders: &[u32; 64],
+) {
+    let size = table_size(f);
+    let races = race_count(file, f, orders);
+    let less = less_one(races);
+    count(seen, RACES, races as u64);
+    race_call(seen, file, f, rows, orders, races, size, races, races);
+    race_call(
+        seen,
+        file,
+        f,
+        rows,
+        orders,
+        races,
+        more(size, 3),
+        more(races, 4),
+        more(races, 6),
+    );
+    race_call(
+        seen,
+        file,
+        f,
+        rows,
+        orders,
+        races,
+        size,
+        less,
+        more(races, 2),
+    );
+    race_call(
+        seen,
+        file,
+        f,
+        rows,
+        orders,
+        races,
+        more(size, 1),
+        races,
+        less,
+    );
+    race_call(
+        seen,
+        file,
+        f,
+        rows,
+        orders,
+        races,
+        less_one(size),
+        less,
+        less,
+    );
+}
+
+// The tidy file
+
+fn canonical_due(f: Facts, file_size: usize, size: usize) -> Told {
+    if f.number != 0 {
+        return told::refusal(f.number, f.place);
+    }
+    if size < file_size {
+        return told::refusal(17, 0);
+    }
+    told::success(number(file_size), 0, 0)
+}
+
+// Tidies the file into an output of that size, and expects the tidy file.
+fn canonical_call(seen: &mut [u64; KINDS], file: &[u8], f: Facts, tidy: &[u8], size: usize) {
+    let mut output = [0u8; 104];
+    fill_bytes(&mut output);
+    let told = told::told_canonical(file, &mut output, size);
+    let due = canonical_due(f, file.len(), size);
+    let written = if due.number == 0 { file.len() } else { 0 };
+    note(
+        seen,
+        due.number,
+        told::same(told, due) && holds_bytes(&output, tidy, written),
+    );
+}
+
+// The tidy file is accepted with the same counts, and its own tidy file is the same.
+fn read_back(seen: &mut [u64; KINDS], f: Facts, tidy: &[u8], size: usize) {
+    if size <= tidy.len() {
+        let file = &tidy[0..size];
+        note(
+            seen,
+            f.number,
+            told::same(told::told_accept(file), accept_due(f)),
+        );
+        canonical_call(seen, file, f, tidy, size);
+    }
+}
+
+fn canonical_calls(seen: &mut [u64; KINDS], file: &[u8], f: Facts) {
+    let mut tidy = [0u8; 90];
+    let size = file.len();
+    small_file::tidy_file(file, &mut tidy);
+    canonical_call(seen, file, f, &tidy, size);
+    canonical_call(seen, file, f, &tidy, less_one(size));
+    canonical_call(seen, file, f, &tidy, more(size, 4));
+    if f.number == 0 {
+        read_back(seen, f, &tidy, size);
+    }
+}
+
+// All calls
+
+fn count_facts(seen: &mut [u64; KINDS], f: Facts) {
+    count(seen, FILES + f.number as usize % 18, 1);
+    count(seen, RUNS, f.runs);
+    count(seen, COMPLETE, f.complete);
+    if f.shared {
+        count(seen, SHARED_EVENTS, 1);
+    }
+    if !f.sound {
+        count(seen, MISMATCHES, 1);
+    }
+}
+
+fn table_calls(seen: &mut [u64; KINDS], file: &[u8], f: Facts, rows: &[u16; 136]) {
+    let size = table_size(f);
+    table_call(seen, file, f, rows, size);
+    table_call(seen, file, f, rows, less_one(size));
+    table_call(seen, file, f, rows, more(size, 5));
+}
+
+// Makes every call on any bytes; `way` decides on the sizes of run buffers. A file of more than eight operations counts
+// as a mismatch unless one of the questions 1 to 9 refuses it.
+pub fn compare_calls(seen: &mut [u64; KINDS], file: &[u8], way: usize) {
+    let mut rows = [0u16; 136];
+    let mut orders = [0u32; 64];
+    let f = expected::facts_of(file, &mut rows, &mut orders);
+    count_facts(seen, f);
+    note(
+        seen,
+        f.number,
+        told::same(told::told_accept(file), accept_due(f)),
+    );
+    table_calls(seen, file, f, &rows);
+    pair_calls(seen, file, f, &orders, way);
+    race_calls(seen, file, f, &rows, &orders);
+    canonical_calls(seen, file, f);
+}

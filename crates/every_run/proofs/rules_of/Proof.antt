@@ -1,0 +1,34 @@
+-- `rules_of` is safe and ends. Assumes nothing.
+use Prim.Native.Nat.{_-_}
+use borrow.Author.Needs.{needs}
+use Rattle.every_run.proofs.rules_of.Statement.{statement}
+use Rattle.every_run.proofs.rules_of.Tie as tie
+
+abbrev Inv-loop : tie.InvT-loop
+Inv-loop t r₀ x₀ r x = Unit {0}
+
+abbrev μ-loop : tie.MeasureT-loop
+μ-loop t r₀ x₀ r x = 8 - x
+
+loop-holds : tie.Need-loop-holds Inv-loop μ-loop
+loop-holds c = search needs
+
+with-rule-requires : tie.Need-with-rule-requires Inv-loop μ-loop
+with-rule-requires c κs = search needs
+
+add-x : tie.Need-add-x Inv-loop μ-loop
+add-x c = search needs
+
+loop-less : tie.Need-loop-less Inv-loop μ-loop
+loop-less c = search needs
+
+loop-again : tie.Need-loop-again Inv-loop μ-loop
+loop-again c = search needs
+
+returns : tie.Need-returns Inv-loop μ-loop
+returns c = search needs
+
+pub rules-of-spec : {M : Type 1} → statement M
+rules-of-spec =
+    tie.close
+    (tie.spec Inv-loop μ-loop loop-holds with-rule-requires add-x loop-less loop-again returns)

@@ -1,0 +1,254 @@
+// Runs of a trace of up to eight operations, by document 01's definition: every one of them is tried.
+use small_file::Small;
+
+// A set of operations has a bit for each: whether x is in it.
+pub fn has(set: u8, x: usize) -> bool {
+    (set >> (x % 8)) % 2 == 1
+}
+
+pub fn with(set: u8, x: usize) -> u8 {
+    set | 1 << (x % 8)
+}
+
+// What may follow what: for each operation, the earlier ones of its worker, and the Posts of its event.
+pub struct Rules {
+    pub count: usize,
+    pub waits: u8,
+    pub earlier: [u8; 8],
+    pub posts: [u8; 8],
+}
+
+fn is_earlier(t: Small, y: usize, x: usize) -> bool {
+    y < x && t.worker[y % 8] == t.worker[x % 8]
+}
+
+fn is_post_for(t: Small, y: usize, x: usize) -> bool {
+    y < t.count && t.kind[y % 8] == 1 && t.first[y % 8] == t.first[x % 8]
+}
+
+fn earlier_of(t: Small, x: usize) -> u8 {
+    let mut set: u8 = 0;
+    for y in 0..8 {
+        if is_earlier(t, y, x) {
+            set = with(set, y);
+        }
+    }
+    set
+}
+
+fn posts_for(t: Small, x: usize) -> u8 {
+    let mut set: u8 = 0;
+    for y in 0..8 {
+        if is_post_for(t, y, x) {
+            set = with(set, y);
+        }
+    }
+    set
+}
+
+fn with_rule(r: Rules, t: Small, x: usize) -> Rules {
+    let mut more = r;
+    let earlier = earlier_of(t, x);
+    let posts = posts_for(t, x);
+    more.earlier[x % 8] = earlier;
+    more.posts[x % 8] = posts;
+    if t.kind[x % 8] == 2 {
+        more.waits = with(r.waits, x);
+    }
+    more
+}
+
+pub fn rules_of(t: Small) -> Rules {
+    let mut r = Rules {
+        count: t.count,
+        waits: 0,
+        earlier: [0; 8],
+        posts: [0; 8],
+    };
+    for x in 0..8 {
+        r = with_rule(r, t, x);
+    }
+    r
+}
+
+// May x follow a run of the operations in `done`? It is not among them, its worker's earlier operations are, and for a
+// Wait some Post of its event is.
+pub fn may_follow(r: Rules, done: u8, x: usize) -> bool {
+    if r.count <= x || has(done, x) {
+        return false;
+    }
+    if r.earlier[x % 8] & done != r.earlier[x % 8] {
+        return false;
+    }
+    !has(r.waits, x) || r.posts[x % 8] & done != 0
+}
+
+// The lowest operation from `from` on that may follow, or 8.
+fn following(r: Rules, done: u8, from: usize) -> usize {
+    for x in from..8 {
+        if may_follow(r, done, x) {
+            return x;
+        }
+    }
+    8
+}
+
+// The run at hand in the search through all runs. `from` is the lowest operation that was not yet tried behind it.
+pub struct Search {
+    list: [u8; 8],
+    length: usize,
+    done: u8,
+    from: usize,
+    pub over: bool,
+    pub runs: u64,
+    pub complete: u64,
+    pub dead_ends: u64,
+}
+
+// Notes that x stands before each of `later` in a complete run.
+fn note_later(after: &mut [u8; 8], x: usize, later: u8) {
+    after[x % 8] = after[x % 8] | later;
+}
+
+// Notes the order of each two operations in the complete run at hand.
+fn note_order(list: [u8; 8], count: usize, after: &mut [u8; 8]) {
+    let mut later: u8 = 0;
+    for i in 0..8 {
+        let x = list[7 - i] as usize;
+        if 7 - i < count {
+            note_later(after, x, later);
+            later = with(later, x);
+        }
+    }
+}
+
+fn without(set: u8, x: usize) -> u8 {
+    if has(set, x) {
+        return set ^ 1 << (x % 8);
+    }
+    set
+}
+
+// The run with x added at its end.
+fn longer(s: Search, x: usize) -> Search {
+    let mut more = s;
+    more.list[s.length % 8] = (x % 8) as u8;
+    more.length = s.length % 8 + 1;
+    more.done = with(s.done, x);
+    more.from = 0;
+    more.runs = s.runs % 1000000000 + 1;
+    more
+}
+
+// The run without its last operation; what comes behind that one is to be tried.
+fn shorter(s: Search) -> Search {
+    let mut less = s;
+    let at = (s.length % 8 + 7) % 8;
+    let last = s.list[at] as usize;
+    less.length = at;
+    less.done = without(s.done, last);
+    less.from = last % 8 + 1;
+    less
+}
+
+// Notes the run at hand: it is one, and where it is complete, which operations stand before which.
+fn note(s: Search, count: usize, reached: &mut [bool; 256], after: &mut [u8; 8]) -> Search {
+    reached[s.done as usize] = true;
+    if s.length != count {
+        return s;
+    }
+    let list = s.list;
+    let mut noted = s;
+    note_order(list, count, after);
+    noted.complete = s.complete % 1000000000 + 1;
+    noted
+}
+
+// The search goes on: to a run that is longer by one operation, or back where none is left to be tried.
+fn step(r: Rules, s: Search, reached: &mut [bool; 256], after: &mut [u8; 8]) -> Search {
+    let x = following(r, s.done, s.from);
+    if x < 8 {
+        return note(longer(s, x), r.count, reached, after);
+    }
+    let mut back = s;
+    if s.from == 0 && s.length < r.count {
+        back.dead_ends = s.dead_ends % 1000000000 + 1;
+    }
+    if s.length == 0 {
+        back.over = true;
+        return back;
+    }
+    shorter(back)
+}
+
+// Eight operations have at most 109,601 runs, and the search comes to each of them twice.
+const TURNS: usize = 250000;
+
+// Tries every run: all lists that grow from the empty one by operations that may follow.
+pub fn every_run(r: Rules, reached: &mut [bool; 256], after: &mut [u8; 8]) -> Search {
+    let start = Search {
+        list: [0; 8],
+        length: 0,
+        done: 0,
+        from: 0,
+        over: false,
+        runs: 1,
+        complete: 0,
+        dead_ends: 0,
+    };
+    let mut s = note(start, r.count, reached, after);
+    for turn in 0..TURNS {
+        if s.over {
+            return s;
+        }
+        s = step(r, s, reached, after);
+    }
+    s
+}
+
+// The largest runs
+
+pub fn size(set: u8) -> u32 {
+    let mut n: u32 = 0;
+    for x in 0..8 {
+        if has(set, x) {
+            n = n % 8 + 1;
+        }
+    }
+    n
+}
+
+// The operations of the run that lacks `a` and has the most operations; nothing is lacking where `a` is 8.
+pub fn largest_without(reached: &[bool; 256], a: usize) -> u8 {
+    let mut best: u8 = 0;
+    for set in 0..256 {
+        if reached[set] && lacks(set as u8, a) && size(best) < size(set as u8) {
+            best = set as u8;
+        }
+    }
+    best
+}
+
+fn lacks(set: u8, a: usize) -> bool {
+    8 <= a || !has(set, a)
+}
+
+// Does the set contain every run that lacks `a`?
+pub fn contains_runs(reached: &[bool; 256], a: usize, best: u8) -> bool {
+    for set in 0..256 {
+        if reached[set] && lacks(set as u8, a) && (set as u8) & best != set as u8 {
+            return false;
+        }
+    }
+    true
+}
+
+// The lowest operation outside the set, or the operation count.
+pub fn lowest_outside(count: usize, set: u8) -> u32 {
+    for x in 0..8 {
+        if count <= x || !has(set, x) {
+            return x as u32;
+        }
+    }
+    8
+}

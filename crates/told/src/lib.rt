@@ -1,0 +1,185 @@
+// Each call's answer as a number, a place and values, so that any two can be compared.
+use accept::AcceptAnswer;
+use canonical::CanonicalAnswer;
+use order_table::TableAnswer;
+use pair_order::OrderAnswer;
+use races::RacesAnswer;
+use two_runs::RunsAnswer;
+
+// What a call answers: the number 0 and its values, or the number and place of its refusal.
+pub struct Told {
+    pub number: u8,
+    pub place: u32,
+    pub x: u32,
+    pub y: u32,
+    pub z: u32,
+}
+
+pub fn refusal(number: u8, place: u32) -> Told {
+    Told {
+        number: number,
+        place: place,
+        x: 0,
+        y: 0,
+        z: 0,
+    }
+}
+
+pub fn success(x: u32, y: u32, z: u32) -> Told {
+    Told {
+        number: 0,
+        place: 0,
+        x: x,
+        y: y,
+        z: z,
+    }
+}
+
+pub fn same(a: Told, b: Told) -> bool {
+    a.number == b.number && a.place == b.place && a.x == b.x && a.y == b.y && a.z == b.z
+}
+
+pub fn told_accept(file: &[u8]) -> Told {
+    match accept::accept(file) {
+        AcceptAnswer::Accepted {
+            workers,
+            operations,
+        } => success(workers as u32, operations, 0),
+        AcceptAnswer::Refused { number, place } => refusal(number, place),
+    }
+}
+
+fn lend_table(file: &[u8], table: &mut [u16], size: usize) -> TableAnswer {
+    if size <= table.len() {
+        return order_table::order_table(file, &mut table[0..size]);
+    }
+    order_table::order_table(file, table)
+}
+
+pub fn told_table(file: &[u8], table: &mut [u16], size: usize) -> Told {
+    match lend_table(file, table, size) {
+        TableAnswer::Filled {
+            workers,
+            operations,
+        } => success(workers as u32, operations, 0),
+        TableAnswer::Refused { number, place } => refusal(number, place),
+    }
+}
+
+// The order as a number without a sign: 1 where it is −1, 2 where it is +1, 0 where it is 0, and 3 for any other.
+fn unsigned(sign: i8) -> u32 {
+    if sign == -1 {
+        return 1;
+    }
+    if sign == 1 {
+        return 2;
+    }
+    if sign == 0 {
+        return 0;
+    }
+    3
+}
+
+pub fn told_order(file: &[u8], a: u32, b: u32) -> Told {
+    match pair_order::pair_order(file, a, b) {
+        OrderAnswer::Ordered { sign } => success(unsigned(sign), 0, 0),
+        OrderAnswer::Refused { number, place } => refusal(number, place),
+    }
+}
+
+fn lend_runs(
+    file: &[u8],
+    a: u32,
+    b: u32,
+    first: &mut [u16],
+    first_size: usize,
+    second: &mut [u16],
+    second_size: usize,
+) -> RunsAnswer {
+    if first_size <= first.len() && second_size <= second.len() {
+        return two_runs::two_runs(
+            file,
+            a,
+            b,
+            &mut first[0..first_size],
+            &mut second[0..second_size],
+        );
+    }
+    two_runs::two_runs(file, a, b, first, second)
+}
+
+pub fn told_runs(
+    file: &[u8],
+    a: u32,
+    b: u32,
+    first: &mut [u16],
+    first_size: usize,
+    second: &mut [u16],
+    second_size: usize,
+) -> Told {
+    match lend_runs(file, a, b, first, first_size, second, second_size) {
+        RunsAnswer::Runs { operations } => success(operations, 0, 0),
+        RunsAnswer::Refused { number, place } => refusal(number, place),
+    }
+}
+
+fn lend_races(
+    file: &[u8],
+    table: &mut [u16],
+    table_size: usize,
+    lower: &mut [u16],
+    lower_size: usize,
+    higher: &mut [u16],
+    higher_size: usize,
+) -> RacesAnswer {
+    if table_size <= table.len() && lower_size <= lower.len() && higher_size <= higher.len() {
+        return races::races(
+            file,
+            &mut table[0..table_size],
+            &mut lower[0..lower_size],
+            &mut higher[0..higher_size],
+        );
+    }
+    races::races(file, table, lower, higher)
+}
+
+pub fn told_races(
+    file: &[u8],
+    table: &mut [u16],
+    table_size: usize,
+    lower: &mut [u16],
+    lower_size: usize,
+    higher: &mut [u16],
+    higher_size: usize,
+) -> Told {
+    match lend_races(
+        file,
+        table,
+        table_size,
+        lower,
+        lower_size,
+        higher,
+        higher_size,
+    ) {
+        RacesAnswer::Listed {
+            workers,
+            operations,
+            races,
+        } => success(workers as u32, operations, races),
+        RacesAnswer::Refused { number, place } => refusal(number, place),
+    }
+}
+
+fn lend_output(file: &[u8], output: &mut [u8], size: usize) -> CanonicalAnswer {
+    if size <= output.len() {
+        return canonical::canonical(file, &mut output[0..size]);
+    }
+    canonical::canonical(file, output)
+}
+
+pub fn told_canonical(file: &[u8], output: &mut [u8], size: usize) -> Told {
+    match lend_output(file, output, size) {
+        CanonicalAnswer::Written { size } => success(size, 0, 0),
+        CanonicalAnswer::Refused { number, place } => refusal(number, place),
+    }
+}

@@ -1,0 +1,74 @@
+-- `record_cases` is safe and ends. Assumes nothing.
+use Prim.Native.Nat.{_-_}
+use borrow.Author.Needs.{needs}
+use Rattle.typed_cases.proofs.record_cases.Statement.{statement}
+use Rattle.typed_cases.proofs.record_cases.Tie as tie
+
+abbrev Inv-loop : tie.InvT-loop
+Inv-loop seen₀ rows i₀ seen i = Unit {0}
+
+abbrev μ-loop : tie.MeasureT-loop
+μ-loop seen₀ rows i₀ seen i = 40 - i
+
+loop-holds : tie.Need-loop-holds Inv-loop μ-loop
+loop-holds c = search needs
+
+mul-row : tie.Need-mul-row Inv-loop μ-loop
+mul-row c = search needs
+
+mul-row-2 : tie.Need-mul-row-2 Inv-loop μ-loop
+mul-row-2 c = search needs
+
+add-row : tie.Need-add-row Inv-loop μ-loop
+add-row c = search needs
+
+mul-row-3 : tie.Need-mul-row-3 Inv-loop μ-loop
+mul-row-3 c = search needs
+
+sub-row : tie.Need-sub-row Inv-loop μ-loop
+sub-row c = search needs
+
+part-row-start : tie.Need-part-row-start Inv-loop μ-loop
+part-row-start c = search needs
+
+part-row-end : tie.Need-part-row-end Inv-loop μ-loop
+part-row-end c = search needs
+
+record-case-requires : tie.Need-record-case-requires Inv-loop μ-loop
+record-case-requires c κs = search needs
+
+record-case-requires-2 : tie.Need-record-case-requires-2 Inv-loop μ-loop
+record-case-requires-2 c κs = search needs
+
+add-i : tie.Need-add-i Inv-loop μ-loop
+add-i c = search needs
+
+loop-less : tie.Need-loop-less Inv-loop μ-loop
+loop-less c = search needs
+
+loop-again : tie.Need-loop-again Inv-loop μ-loop
+loop-again c = search needs
+
+returns : tie.Need-returns Inv-loop μ-loop
+returns c = search needs
+
+pub record-cases-spec : {M : Type 1} → statement M
+record-cases-spec =
+    tie.close
+    (tie.spec
+    Inv-loop
+    μ-loop
+    loop-holds
+    mul-row
+    mul-row-2
+    add-row
+    mul-row-3
+    sub-row
+    part-row-start
+    part-row-end
+    record-case-requires
+    record-case-requires-2
+    add-i
+    loop-less
+    loop-again
+    returns)
