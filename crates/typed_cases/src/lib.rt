@@ -45,244 +45,51 @@ fn reading_case(seen: &mut [u64; 2], bytes: &[u8], size: usize, due: Told) {
 // Questions 1 to 4
 
 // A row: number, size of the file, the two bytes of the mark, workers, kind, operations, length.
-fn header_case(seen: &mut [u64; 2], row: &[u32]) {
+const HEADERS: [[u32; 8]; 28] = [
+    [1, 0, 0x50, 0x57, 1, 0, 0, 0],
+    [1, 1, 0x50, 0x57, 1, 0, 0, 0],
+    [1, 9, 0x50, 0x57, 1, 0, 0, 0],
+    [0, 10, 0x50, 0x57, 1, 0, 0, 0],
+    [1, 10, 0x50, 0x56, 1, 0, 0, 0],
+    [1, 10, 0x50, 0x58, 1, 0, 0, 0],
+    [1, 10, 0x51, 0x57, 1, 0, 0, 0],
+    [1, 10, 0x57, 0x50, 1, 0, 0, 0],
+    [1, 10, 0x50, 0x57, 1, 1, 0, 0],
+    [1, 10, 0x50, 0x57, 1, 255, 0, 0],
+    [1, 10, 0x50, 0x57, 1, 0, 0, 1],
+    [1, 10, 0x50, 0x57, 1, 0, 0, 256],
+    [1, 10, 0x50, 0x57, 0, 1, 0, 0],
+    [2, 10, 0x50, 0x57, 0, 0, 0, 0],
+    [0, 10, 0x50, 0x57, 16, 0, 0, 0],
+    [2, 10, 0x50, 0x57, 17, 0, 0, 0],
+    [2, 10, 0x50, 0x57, 255, 0, 0, 0],
+    [2, 10, 0x50, 0x57, 17, 0, 1025, 0],
+    [3, 10, 0x50, 0x57, 1, 0, 1025, 0],
+    [3, 10, 0x50, 0x57, 1, 0, 65536, 0],
+    [3, 10, 0x50, 0x57, 16, 0, 2147483648, 0],
+    [3, 10, 0x50, 0x57, 16, 0, 4294967295, 0],
+    [4, 10, 0x50, 0x57, 1, 0, 1024, 0],
+    [4, 11, 0x50, 0x57, 1, 0, 0, 0],
+    [4, 20, 0x50, 0x57, 1, 0, 0, 0],
+    [4, 10, 0x50, 0x57, 1, 0, 1, 0],
+    [4, 19, 0x50, 0x57, 1, 0, 1, 0],
+    [4, 21, 0x50, 0x57, 1, 0, 1, 0],
+];
+
+fn header_case(seen: &mut [u64; 2], row: [u32; 8]) {
+    let size = row[1] as usize;
     let mut file = [0u8; 40];
-    test_files::put_record(&mut file, 0, at(row, 4), at(row, 5), at(row, 6), at(row, 7));
-    test_files::put_byte(&mut file, 0, at(row, 2));
-    test_files::put_byte(&mut file, 1, at(row, 3));
-    let due = verdict(at(row, 0), 0, at(row, 4), at(row, 6), 0);
-    reading_case(seen, &file, at(row, 1) as usize, due);
+    test_files::put_record(&mut file, 0, row[4], row[5], row[6], row[7]);
+    test_files::put_byte(&mut file, 0, row[2]);
+    test_files::put_byte(&mut file, 1, row[3]);
+    let due = verdict(row[0], 0, row[4], row[6], 0);
+    reading_case(seen, &file, size, due);
 }
 
 fn header_cases(seen: &mut [u64; 2]) {
-    let rows: [u32; 224] = [
-        1,
-        0,
-        0x50,
-        0x57,
-        1,
-        0,
-        0,
-        0,
-        1,
-        1,
-        0x50,
-        0x57,
-        1,
-        0,
-        0,
-        0,
-        1,
-        9,
-        0x50,
-        0x57,
-        1,
-        0,
-        0,
-        0,
-        0,
-        10,
-        0x50,
-        0x57,
-        1,
-        0,
-        0,
-        0,
-        1,
-        10,
-        0x50,
-        0x56,
-        1,
-        0,
-        0,
-        0,
-        1,
-        10,
-        0x50,
-        0x58,
-        1,
-        0,
-        0,
-        0,
-        1,
-        10,
-        0x51,
-        0x57,
-        1,
-        0,
-        0,
-        0,
-        1,
-        10,
-        0x57,
-        0x50,
-        1,
-        0,
-        0,
-        0,
-        1,
-        10,
-        0x50,
-        0x57,
-        1,
-        1,
-        0,
-        0,
-        1,
-        10,
-        0x50,
-        0x57,
-        1,
-        255,
-        0,
-        0,
-        1,
-        10,
-        0x50,
-        0x57,
-        1,
-        0,
-        0,
-        1,
-        1,
-        10,
-        0x50,
-        0x57,
-        1,
-        0,
-        0,
-        256,
-        1,
-        10,
-        0x50,
-        0x57,
-        0,
-        1,
-        0,
-        0,
-        2,
-        10,
-        0x50,
-        0x57,
-        0,
-        0,
-        0,
-        0,
-        0,
-        10,
-        0x50,
-        0x57,
-        16,
-        0,
-        0,
-        0,
-        2,
-        10,
-        0x50,
-        0x57,
-        17,
-        0,
-        0,
-        0,
-        2,
-        10,
-        0x50,
-        0x57,
-        255,
-        0,
-        0,
-        0,
-        2,
-        10,
-        0x50,
-        0x57,
-        17,
-        0,
-        1025,
-        0,
-        3,
-        10,
-        0x50,
-        0x57,
-        1,
-        0,
-        1025,
-        0,
-        3,
-        10,
-        0x50,
-        0x57,
-        1,
-        0,
-        65536,
-        0,
-        3,
-        10,
-        0x50,
-        0x57,
-        16,
-        0,
-        2147483648,
-        0,
-        3,
-        10,
-        0x50,
-        0x57,
-        16,
-        0,
-        4294967295,
-        0,
-        4,
-        10,
-        0x50,
-        0x57,
-        1,
-        0,
-        1024,
-        0,
-        4,
-        11,
-        0x50,
-        0x57,
-        1,
-        0,
-        0,
-        0,
-        4,
-        20,
-        0x50,
-        0x57,
-        1,
-        0,
-        0,
-        0,
-        4,
-        10,
-        0x50,
-        0x57,
-        1,
-        0,
-        1,
-        0,
-        4,
-        19,
-        0x50,
-        0x57,
-        1,
-        0,
-        1,
-        0,
-        4,
-        21,
-        0x50,
-        0x57,
-        1,
-        0,
-        1,
-        0,
-    ];
     for i in 0..28 {
-        header_case(seen, &rows[i * 8..i * 8 + 8]);
+        let row = HEADERS[i];
+        header_case(seen, row);
     }
 }
 
@@ -290,343 +97,64 @@ fn header_cases(seen: &mut [u64; 2]) {
 
 // A row: number, the two bytes of the mark, workers; worker, kind, number and length of the record, which is operation
 // `place`, behind Reads.
-fn record_case(seen: &mut [u64; 2], row: &[u32], place: u32) {
+const RECORDS: [[u32; 8]; 40] = [
+    [0, 0x50, 0x57, 1, 0, 4, 0, 1],
+    [5, 0x50, 0x56, 1, 0, 4, 0, 1],
+    [5, 0x50, 0x58, 1, 0, 4, 0, 1],
+    [5, 0x57, 0x50, 1, 0, 4, 0, 1],
+    [5, 0, 0, 1, 1, 5, 0, 0],
+    [6, 0x50, 0x57, 1, 1, 4, 0, 1],
+    [6, 0x50, 0x57, 1, 1, 5, 0, 0],
+    [0, 0x50, 0x57, 16, 15, 4, 0, 1],
+    [6, 0x50, 0x57, 16, 16, 4, 0, 1],
+    [6, 0x50, 0x57, 16, 255, 4, 0, 1],
+    [7, 0x50, 0x57, 1, 0, 0, 0, 1],
+    [7, 0x50, 0x57, 1, 0, 5, 0, 1],
+    [7, 0x50, 0x57, 1, 0, 255, 256, 0],
+    [0, 0x50, 0x57, 1, 0, 1, 0, 0],
+    [10, 0x50, 0x57, 1, 0, 2, 0, 0],
+    [0, 0x50, 0x57, 1, 0, 3, 0, 1],
+    [0, 0x50, 0x57, 1, 0, 1, 255, 0],
+    [8, 0x50, 0x57, 1, 0, 1, 256, 0],
+    [8, 0x50, 0x57, 1, 0, 1, 65536, 0],
+    [8, 0x50, 0x57, 1, 0, 1, 16777216, 0],
+    [8, 0x50, 0x57, 1, 0, 1, 4294967295, 0],
+    [8, 0x50, 0x57, 1, 0, 1, 255, 1],
+    [8, 0x50, 0x57, 1, 0, 1, 255, 256],
+    [10, 0x50, 0x57, 1, 0, 2, 255, 0],
+    [8, 0x50, 0x57, 1, 0, 2, 256, 0],
+    [8, 0x50, 0x57, 1, 0, 2, 0, 1],
+    [0, 0x50, 0x57, 1, 0, 3, 4294967295, 1],
+    [9, 0x50, 0x57, 1, 0, 3, 4294967295, 2],
+    [9, 0x50, 0x57, 1, 0, 3, 4294967295, 0],
+    [9, 0x50, 0x57, 1, 0, 3, 4294967295, 65535],
+    [0, 0x50, 0x57, 1, 0, 3, 4294901761, 65535],
+    [9, 0x50, 0x57, 1, 0, 3, 4294901762, 65535],
+    [9, 0x50, 0x57, 1, 0, 3, 0, 0],
+    [0, 0x50, 0x57, 1, 0, 3, 256, 256],
+    [0, 0x50, 0x57, 1, 0, 4, 4294967295, 1],
+    [9, 0x50, 0x57, 1, 0, 4, 4294967295, 2],
+    [9, 0x50, 0x57, 1, 0, 4, 4294967295, 0],
+    [0, 0x50, 0x57, 1, 0, 4, 4294901761, 65535],
+    [9, 0x50, 0x57, 1, 0, 4, 4294901762, 65535],
+    [9, 0x50, 0x57, 1, 0, 4, 0, 0],
+];
+
+fn record_case(seen: &mut [u64; 2], row: [u32; 8], place: u32) {
     let k = place as usize % 2;
     let mut file = [0u8; 30];
-    test_files::put_header(&mut file, at(row, 3), place % 2 + 1);
+    test_files::put_header(&mut file, row[3], place % 2 + 1);
     test_files::put_operation(&mut file, 0, 0, 3, 0, 1);
-    test_files::put_operation(&mut file, k, at(row, 4), at(row, 5), at(row, 6), at(row, 7));
-    test_files::put_byte(&mut file, k * 10 + 10, at(row, 1));
-    test_files::put_byte(&mut file, k * 10 + 11, at(row, 2));
-    let due = verdict(at(row, 0), place, at(row, 3), place % 2 + 1, 0);
+    test_files::put_operation(&mut file, k, row[4], row[5], row[6], row[7]);
+    test_files::put_byte(&mut file, k * 10 + 10, row[1]);
+    test_files::put_byte(&mut file, k * 10 + 11, row[2]);
+    let due = verdict(row[0], place, row[3], place % 2 + 1, 0);
     reading_case(seen, &file, k * 10 + 20, due);
 }
 
 fn record_cases(seen: &mut [u64; 2]) {
-    let rows: [u32; 320] = [
-        0,
-        0x50,
-        0x57,
-        1,
-        0,
-        4,
-        0,
-        1,
-        5,
-        0x50,
-        0x56,
-        1,
-        0,
-        4,
-        0,
-        1,
-        5,
-        0x50,
-        0x58,
-        1,
-        0,
-        4,
-        0,
-        1,
-        5,
-        0x57,
-        0x50,
-        1,
-        0,
-        4,
-        0,
-        1,
-        5,
-        0,
-        0,
-        1,
-        1,
-        5,
-        0,
-        0,
-        6,
-        0x50,
-        0x57,
-        1,
-        1,
-        4,
-        0,
-        1,
-        6,
-        0x50,
-        0x57,
-        1,
-        1,
-        5,
-        0,
-        0,
-        0,
-        0x50,
-        0x57,
-        16,
-        15,
-        4,
-        0,
-        1,
-        6,
-        0x50,
-        0x57,
-        16,
-        16,
-        4,
-        0,
-        1,
-        6,
-        0x50,
-        0x57,
-        16,
-        255,
-        4,
-        0,
-        1,
-        7,
-        0x50,
-        0x57,
-        1,
-        0,
-        0,
-        0,
-        1,
-        7,
-        0x50,
-        0x57,
-        1,
-        0,
-        5,
-        0,
-        1,
-        7,
-        0x50,
-        0x57,
-        1,
-        0,
-        255,
-        256,
-        0,
-        0,
-        0x50,
-        0x57,
-        1,
-        0,
-        1,
-        0,
-        0,
-        10,
-        0x50,
-        0x57,
-        1,
-        0,
-        2,
-        0,
-        0,
-        0,
-        0x50,
-        0x57,
-        1,
-        0,
-        3,
-        0,
-        1,
-        0,
-        0x50,
-        0x57,
-        1,
-        0,
-        1,
-        255,
-        0,
-        8,
-        0x50,
-        0x57,
-        1,
-        0,
-        1,
-        256,
-        0,
-        8,
-        0x50,
-        0x57,
-        1,
-        0,
-        1,
-        65536,
-        0,
-        8,
-        0x50,
-        0x57,
-        1,
-        0,
-        1,
-        16777216,
-        0,
-        8,
-        0x50,
-        0x57,
-        1,
-        0,
-        1,
-        4294967295,
-        0,
-        8,
-        0x50,
-        0x57,
-        1,
-        0,
-        1,
-        255,
-        1,
-        8,
-        0x50,
-        0x57,
-        1,
-        0,
-        1,
-        255,
-        256,
-        10,
-        0x50,
-        0x57,
-        1,
-        0,
-        2,
-        255,
-        0,
-        8,
-        0x50,
-        0x57,
-        1,
-        0,
-        2,
-        256,
-        0,
-        8,
-        0x50,
-        0x57,
-        1,
-        0,
-        2,
-        0,
-        1,
-        0,
-        0x50,
-        0x57,
-        1,
-        0,
-        3,
-        4294967295,
-        1,
-        9,
-        0x50,
-        0x57,
-        1,
-        0,
-        3,
-        4294967295,
-        2,
-        9,
-        0x50,
-        0x57,
-        1,
-        0,
-        3,
-        4294967295,
-        0,
-        9,
-        0x50,
-        0x57,
-        1,
-        0,
-        3,
-        4294967295,
-        65535,
-        0,
-        0x50,
-        0x57,
-        1,
-        0,
-        3,
-        4294901761,
-        65535,
-        9,
-        0x50,
-        0x57,
-        1,
-        0,
-        3,
-        4294901762,
-        65535,
-        9,
-        0x50,
-        0x57,
-        1,
-        0,
-        3,
-        0,
-        0,
-        0,
-        0x50,
-        0x57,
-        1,
-        0,
-        3,
-        256,
-        256,
-        0,
-        0x50,
-        0x57,
-        1,
-        0,
-        4,
-        4294967295,
-        1,
-        9,
-        0x50,
-        0x57,
-        1,
-        0,
-        4,
-        4294967295,
-        2,
-        9,
-        0x50,
-        0x57,
-        1,
-        0,
-        4,
-        4294967295,
-        0,
-        0,
-        0x50,
-        0x57,
-        1,
-        0,
-        4,
-        4294901761,
-        65535,
-        9,
-        0x50,
-        0x57,
-        1,
-        0,
-        4,
-        4294901762,
-        65535,
-        9,
-        0x50,
-        0x57,
-        1,
-        0,
-        4,
-        0,
-        0,
-    ];
     for i in 0..40 {
-        let row = &rows[i * 8..i * 8 + 8];
+        let row = RECORDS[i];
         record_case(seen, row, 0);
         record_case(seen, row, 1);
     }
@@ -650,20 +178,29 @@ fn reading_cases(seen: &mut [u64; 2]) {
 
 // The examples A to F
 
-// Writes the file of a trace whose operations are listed as worker, kind and number; an access has one cell.
-fn put_trace(file: &mut [u8], workers: u32, operations: &[u32]) {
-    let count = operations.len() / 3 % 9;
-    test_files::put_header(file, workers, count as u32);
-    for k in 0..count {
-        put_listed(file, operations, k);
+// Writes the file of a trace whose operations are listed, each as worker, kind and number; an access has one cell.
+fn put_trace(file: &mut [u8], workers: u32, operations: &[[u32; 3]]) {
+    test_files::put_header(file, workers, (operations.len() % 9) as u32);
+    for k in 0..operations.len() {
+        let o = operations[k];
+        put_listed(file, k, o);
     }
 }
 
-fn put_listed(file: &mut [u8], operations: &[u32], k: usize) {
-    let kind = at(operations, k % 9 * 3 + 1);
-    let length: u32 = if kind < 3 { 0 } else { 1 };
-    let worker = at(operations, k % 9 * 3);
-    test_files::put_operation(file, k, worker, kind, at(operations, k % 9 * 3 + 2), length);
+fn put_listed(file: &mut [u8], k: usize, o: [u32; 3]) {
+    let length: u32 = if o[1] < 3 { 0 } else { 1 };
+    test_files::put_operation(file, k, o[0], o[1], o[2], length);
+}
+
+fn wide(x: u16) -> u32 {
+    x as u32
+}
+
+fn number_at(list: &[u16], i: usize) -> u32 {
+    if i < list.len() {
+        return wide(list[i]);
+    }
+    65536
 }
 
 // Does the memory start with the numbers that are due?
@@ -677,108 +214,73 @@ fn starts_with(memory: &[u16], due: &[u16]) -> bool {
 }
 
 // A row: size of the table, number.
-fn table_case(seen: &mut [u64; 2], file: &[u8], row: &[u32]) {
-    let entries: [u16; 22] = [
-        0,
-        0,
-        0,
-        1,
-        0,
-        0,
-        2,
-        0,
-        3,
-        2,
-        1,
-        3,
-        2,
-        2,
-        0,
-        2,
-        2,
-        1,
-        2,
-        2,
-        2,
-        9,
-    ];
+const TABLES: [[u32; 2]; 4] = [[21, 0], [22, 0], [20, 11], [0, 11]];
+
+fn table_case(seen: &mut [u64; 2], file: &[u8], row: [u32; 2]) {
     let before = [9u16; 22];
     let mut table = [9u16; 22];
-    let answer = told::told_table(file, &mut table, at(row, 0) as usize);
-    typed(seen, answer, verdict(at(row, 1), 0, 3, 7, 0));
-    if at(row, 1) == 0 {
-        typed_fact(seen, starts_with(&table, &entries));
+    let answer = told::told_table(file, &mut table, row[0] as usize);
+    typed(seen, answer, verdict(row[1], 0, 3, 7, 0));
+    if row[1] == 0 {
+        typed_fact(seen, has_rows(&table) && number_at(&table, 21) == 9);
     } else {
         typed_fact(seen, starts_with(&table, &before));
     }
 }
 
+// A1.
+const ROWS_OF_A: [[u16; 3]; 7] = [
+    [0, 0, 0],
+    [1, 0, 0],
+    [2, 0, 3],
+    [2, 1, 3],
+    [2, 2, 0],
+    [2, 2, 1],
+    [2, 2, 2],
+];
+
+fn has_rows(table: &[u16]) -> bool {
+    for i in 0..21 {
+        let row = ROWS_OF_A[i / 3];
+        if number_at(table, i) != wide(row[i % 3]) {
+            return false;
+        }
+    }
+    true
+}
+
 fn table_cases(seen: &mut [u64; 2], file: &[u8]) {
-    let rows: [u32; 8] = [21, 0, 22, 0, 20, 11, 0, 11];
     for i in 0..4 {
-        table_case(seen, file, &rows[i * 2..i * 2 + 2]);
+        let row = TABLES[i];
+        table_case(seen, file, row);
     }
 }
 
 // A row: two operation numbers, number, order; −1 is 1 here, and +1 is 2.
-fn order_case(seen: &mut [u64; 2], file: &[u8], row: &[u32]) {
-    let answer = told::told_order(file, at(row, 0), at(row, 1));
-    typed(seen, answer, verdict(at(row, 2), 0, at(row, 3), 0, 0));
+const ORDERS: [[u32; 4]; 12] = [
+    [0, 3, 0, 1],
+    [3, 0, 0, 2],
+    [3, 5, 0, 0],
+    [6, 0, 0, 2],
+    [6, 6, 13, 0],
+    [7, 0, 12, 0],
+    [0, 7, 12, 0],
+    [7, 7, 12, 0],
+    [256, 0, 12, 0],
+    [65539, 0, 12, 0],
+    [0, 65539, 12, 0],
+    [4294967295, 4294967295, 12, 0],
+];
+
+fn order_case(seen: &mut [u64; 2], file: &[u8], row: [u32; 4]) {
+    let answer = told::told_order(file, row[0], row[1]);
+    typed(seen, answer, verdict(row[2], 0, row[3], 0, 0));
 }
 
 fn order_cases(seen: &mut [u64; 2], file: &[u8]) {
-    let rows: [u32; 48] = [
-        0,
-        3,
-        0,
-        1,
-        3,
-        0,
-        0,
-        2,
-        3,
-        5,
-        0,
-        0,
-        6,
-        0,
-        0,
-        2,
-        6,
-        6,
-        13,
-        0,
-        7,
-        0,
-        12,
-        0,
-        0,
-        7,
-        12,
-        0,
-        7,
-        7,
-        12,
-        0,
-        256,
-        0,
-        12,
-        0,
-        65539,
-        0,
-        12,
-        0,
-        0,
-        65539,
-        12,
-        0,
-        4294967295,
-        4294967295,
-        12,
-        0,
-    ];
     for i in 0..12 {
-        order_case(seen, file, &rows[i * 4..i * 4 + 4]);
+        let row = ORDERS[i];
+        order_case(seen, file, row);
     }
 }
 
@@ -793,82 +295,40 @@ fn are_runs(number: u32, first: &[u16], second: &[u16]) -> bool {
 }
 
 // A row: two operation numbers, sizes of the two buffers, number.
-fn runs_case(seen: &mut [u64; 2], file: &[u8], row: &[u32]) {
+const RUNS: [[u32; 5]; 11] = [
+    [3, 5, 7, 7, 0],
+    [3, 5, 8, 7, 0],
+    [3, 5, 6, 8, 15],
+    [3, 5, 8, 6, 15],
+    [3, 5, 0, 0, 15],
+    [0, 3, 8, 8, 14],
+    [3, 0, 0, 0, 14],
+    [5, 5, 0, 0, 13],
+    [7, 7, 8, 8, 12],
+    [65539, 5, 8, 8, 12],
+    [3, 65541, 8, 8, 12],
+];
+
+fn runs_case(seen: &mut [u64; 2], file: &[u8], row: [u32; 5]) {
     let mut first = [9u16; 8];
     let mut second = [9u16; 8];
     let answer = told::told_runs(
         file,
-        at(row, 0),
-        at(row, 1),
+        row[0],
+        row[1],
         &mut first,
-        at(row, 2) as usize,
+        row[2] as usize,
         &mut second,
-        at(row, 3) as usize,
+        row[3] as usize,
     );
-    typed(seen, answer, verdict(at(row, 4), 0, 7, 0, 0));
-    typed_fact(seen, are_runs(at(row, 4), &first, &second));
+    typed(seen, answer, verdict(row[4], 0, 7, 0, 0));
+    typed_fact(seen, are_runs(row[4], &first, &second));
 }
 
 fn runs_cases(seen: &mut [u64; 2], file: &[u8]) {
-    let rows: [u32; 55] = [
-        3,
-        5,
-        7,
-        7,
-        0,
-        3,
-        5,
-        8,
-        7,
-        0,
-        3,
-        5,
-        6,
-        8,
-        15,
-        3,
-        5,
-        8,
-        6,
-        15,
-        3,
-        5,
-        0,
-        0,
-        15,
-        0,
-        3,
-        8,
-        8,
-        14,
-        3,
-        0,
-        0,
-        0,
-        14,
-        5,
-        5,
-        0,
-        0,
-        13,
-        7,
-        7,
-        8,
-        8,
-        12,
-        65539,
-        5,
-        8,
-        8,
-        12,
-        3,
-        65541,
-        8,
-        8,
-        12,
-    ];
     for i in 0..11 {
-        runs_case(seen, file, &rows[i * 5..i * 5 + 5]);
+        let row = RUNS[i];
+        runs_case(seen, file, row);
     }
 }
 
@@ -883,84 +343,48 @@ fn is_race(number: u32, a: u16, b: u16, lower: &[u16], higher: &[u16]) -> bool {
 }
 
 // A row: sizes of the table and of the two lists, number, place. The one race is 3 5.
-fn races_case(seen: &mut [u64; 2], file: &[u8], row: &[u32]) {
+const RACES: [[u32; 5]; 6] = [
+    [21, 1, 1, 0, 0],
+    [22, 2, 2, 0, 0],
+    [21, 0, 2, 16, 1],
+    [21, 2, 0, 16, 1],
+    [20, 2, 2, 11, 0],
+    [20, 0, 0, 11, 0],
+];
+
+fn races_case(seen: &mut [u64; 2], file: &[u8], row: [u32; 5]) {
     let mut table = [9u16; 22];
     let mut lower = [9u16; 2];
     let mut higher = [9u16; 2];
     let answer = told::told_races(
         file,
         &mut table,
-        at(row, 0) as usize,
+        row[0] as usize,
         &mut lower,
-        at(row, 1) as usize,
+        row[1] as usize,
         &mut higher,
-        at(row, 2) as usize,
+        row[2] as usize,
     );
-    typed(seen, answer, verdict(at(row, 3), at(row, 4), 3, 7, 1));
-    typed_fact(seen, is_race(at(row, 3), 3, 5, &lower, &higher));
+    typed(seen, answer, verdict(row[3], row[4], 3, 7, 1));
+    typed_fact(seen, is_race(row[3], 3, 5, &lower, &higher));
 }
 
 fn races_cases(seen: &mut [u64; 2], file: &[u8]) {
-    let rows: [u32; 30] = [
-        21,
-        1,
-        1,
-        0,
-        0,
-        22,
-        2,
-        2,
-        0,
-        0,
-        21,
-        0,
-        2,
-        16,
-        1,
-        21,
-        2,
-        0,
-        16,
-        1,
-        20,
-        2,
-        2,
-        11,
-        0,
-        20,
-        0,
-        0,
-        11,
-        0,
-    ];
     for i in 0..6 {
-        races_case(seen, file, &rows[i * 5..i * 5 + 5]);
+        let row = RACES[i];
+        races_case(seen, file, row);
     }
 }
 
 fn cases_of_a(seen: &mut [u64; 2]) {
-    let a: [u32; 21] = [
-        0,
-        4,
-        7,
-        0,
-        1,
-        1,
-        1,
-        2,
-        1,
-        1,
-        3,
-        7,
-        2,
-        2,
-        1,
-        2,
-        4,
-        7,
-        2,
-        1,
-        1,
+    let a: [[u32; 3]; 7] = [
+        [0, 4, 7],
+        [0, 1, 1],
+        [1, 2, 1],
+        [1, 3, 7],
+        [2, 2, 1],
+        [2, 4, 7],
+        [2, 1, 1],
     ];
     let mut file = [0u8; 80];
     put_trace(&mut file, 3, &a);
@@ -985,20 +409,20 @@ fn cases_of_b(seen: &mut [u64; 2], file: &[u8]) {
 }
 
 // A trace and what reading it answers.
-fn trace_case(seen: &mut [u64; 2], workers: u32, operations: &[u32], due: Told) {
+fn trace_case(seen: &mut [u64; 2], workers: u32, operations: &[[u32; 3]], due: Told) {
     let mut file = [0u8; 90];
     put_trace(&mut file, workers, operations);
-    reading_case(seen, &file, operations.len() / 3 % 9 * 10 + 10, due);
+    reading_case(seen, &file, operations.len() % 9 * 10 + 10, due);
 }
 
 // C, D and D turned, and other traces without a complete run: the place is the lowest operation that no run has.
 fn stuck_cases(seen: &mut [u64; 2]) {
-    let c: [u32; 12] = [0, 2, 1, 0, 1, 2, 1, 2, 2, 1, 1, 1];
-    let d: [u32; 6] = [0, 2, 1, 0, 1, 1];
-    let d_turned: [u32; 6] = [0, 1, 1, 0, 2, 1];
-    let behind_read: [u32; 9] = [0, 3, 0, 1, 2, 5, 0, 2, 5];
-    let behind_post: [u32; 12] = [0, 1, 1, 1, 2, 2, 0, 2, 1, 1, 1, 3];
-    let higher_worker: [u32; 9] = [1, 2, 5, 0, 2, 5, 1, 1, 5];
+    let c: [[u32; 3]; 4] = [[0, 2, 1], [0, 1, 2], [1, 2, 2], [1, 1, 1]];
+    let d: [[u32; 3]; 2] = [[0, 2, 1], [0, 1, 1]];
+    let d_turned: [[u32; 3]; 2] = [[0, 1, 1], [0, 2, 1]];
+    let behind_read: [[u32; 3]; 3] = [[0, 3, 0], [1, 2, 5], [0, 2, 5]];
+    let behind_post: [[u32; 3]; 4] = [[0, 1, 1], [1, 2, 2], [0, 2, 1], [1, 1, 3]];
+    let higher_worker: [[u32; 3]; 3] = [[1, 2, 5], [0, 2, 5], [1, 1, 5]];
     trace_case(seen, 2, &c, told::refusal(10, 0));
     trace_case(seen, 1, &d, told::refusal(10, 0));
     trace_case(seen, 1, &d_turned, told::success(1, 2, 0));
@@ -1035,7 +459,7 @@ fn case_of_f(seen: &mut [u64; 2], cell: u32, races: u32) {
 
 // The examples A to F, and boundary numbers of the questions 10 to 16.
 fn example_cases(seen: &mut [u64; 2]) {
-    let b: [u32; 15] = [0, 4, 7, 0, 1, 1, 1, 1, 1, 2, 2, 1, 2, 3, 7];
+    let b: [[u32; 3]; 5] = [[0, 4, 7], [0, 1, 1], [1, 1, 1], [2, 2, 1], [2, 3, 7]];
     let mut file = [0u8; 60];
     put_trace(&mut file, 3, &b);
     reading_case(seen, &file, 60, told::success(3, 5, 0));
@@ -1052,74 +476,39 @@ fn example_cases(seen: &mut [u64; 2]) {
 // The beginning of a run
 
 // A row: chosen number, other number, which list (0 the first, 1 the second), how many of its numbers.
-fn beginning_case<'a>(seen: &mut [u64; 2], first: &'a [u16], second: &'a [u16], row: &[u32]) {
-    let part = beginning::beginning(first, second, at(row, 0), at(row, 1));
-    let list = if at(row, 2) == 0 { first } else { second };
+const BEGINNINGS: [[u32; 4]; 14] = [
+    [5, 3, 1, 5],
+    [0, 3, 1, 1],
+    [4, 3, 1, 4],
+    [1, 2, 0, 1],
+    [1, 4, 0, 1],
+    [3, 4, 0, 4],
+    [2, 1, 0, 0],
+    [6, 5, 0, 0],
+    [5, 1, 0, 0],
+    [1, 1, 0, 0],
+    [9, 3, 0, 0],
+    [1, 9, 0, 0],
+    [65537, 3, 0, 0],
+    [1, 65539, 0, 0],
+];
+
+fn beginning_case<'a>(seen: &mut [u64; 2], first: &'a [u16], second: &'a [u16], row: [u32; 4]) {
+    let part = beginning::beginning(first, second, row[0], row[1]);
+    let list = if row[2] == 0 { first } else { second };
     typed_fact(
         seen,
-        part.len() == at(row, 3) as usize && starts_with(list, part),
+        part.len() == row[3] as usize && starts_with(list, part),
     );
 }
 
+// A list in which a number repeats, and the second run of A3.
 fn beginning_cases(seen: &mut [u64; 2]) {
     let first: [u16; 5] = [1, 2, 1, 3, 4];
-    let second: [u16; 4] = [7, 5, 1, 6];
-    let rows: [u32; 52] = [
-        1,
-        2,
-        0,
-        1,
-        1,
-        4,
-        0,
-        1,
-        3,
-        4,
-        0,
-        4,
-        2,
-        1,
-        0,
-        0,
-        1,
-        1,
-        0,
-        0,
-        4,
-        3,
-        0,
-        0,
-        9,
-        3,
-        0,
-        0,
-        1,
-        9,
-        0,
-        0,
-        65537,
-        3,
-        0,
-        0,
-        1,
-        65539,
-        0,
-        0,
-        5,
-        6,
-        1,
-        2,
-        6,
-        5,
-        0,
-        0,
-        5,
-        1,
-        1,
-        2,
-    ];
-    for i in 0..13 {
-        beginning_case(seen, &first, &second, &rows[i * 4..i * 4 + 4]);
+    let second: [u16; 7] = [0, 1, 2, 4, 5, 6, 3];
+    for i in 0..14 {
+        let row = BEGINNINGS[i];
+        beginning_case(seen, &first, &second, row);
     }
 }
 
@@ -1133,17 +522,6 @@ fn put_writes(file: &mut [u8]) {
     for k in 0..1024 {
         test_files::put_operation(file, k, (k % 16) as u32, 4, 7, 1);
     }
-}
-
-fn wide(x: u16) -> u32 {
-    x as u32
-}
-
-fn number_at(list: &[u16], i: usize) -> u32 {
-    if i < list.len() {
-        return wide(list[i]);
-    }
-    65536
 }
 
 // Pairs of a place and the number that is due there.
@@ -1200,10 +578,17 @@ fn tidy_writes(seen: &mut [u64; 2], file: &[u8]) {
 }
 
 // A row: two operation numbers, number, order.
+const ORDERS_OF_WRITES: [[u32; 4]; 4] = [
+    [0, 1023, 0, 0],
+    [0, 16, 0, 1],
+    [1023, 15, 0, 2],
+    [1024, 0, 12, 0],
+];
+
 fn orders_of_writes(seen: &mut [u64; 2], file: &[u8]) {
-    let rows: [u32; 16] = [0, 1023, 0, 0, 0, 16, 0, 1, 1023, 15, 0, 2, 1024, 0, 12, 0];
     for i in 0..4 {
-        order_case(seen, file, &rows[i * 4..i * 4 + 4]);
+        let row = ORDERS_OF_WRITES[i];
+        order_case(seen, file, row);
     }
 }
 

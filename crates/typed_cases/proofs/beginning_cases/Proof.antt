@@ -5,40 +5,25 @@ use Rattle.typed_cases.proofs.beginning_cases.Statement.{statement}
 use Rattle.typed_cases.proofs.beginning_cases.Tie as tie
 
 abbrev Inv-loop : tie.InvT-loop
-Inv-loop seen₀ first second rows i₀ seen i = Unit {0}
+Inv-loop seen₀ first second i₀ seen i = Unit {0}
 
 abbrev μ-loop : tie.MeasureT-loop
-μ-loop seen₀ first second rows i₀ seen i = 13 - i
+μ-loop seen₀ first second i₀ seen i = 14 - i
 
 loop-holds : tie.Need-loop-holds Inv-loop μ-loop
 loop-holds c = search needs
+
+mul-row : tie.Need-mul-row Inv-loop μ-loop
+mul-row c = search needs
+
+array-copy-out-row : tie.Need-array-copy-out-row Inv-loop μ-loop
+array-copy-out-row c = search needs
 
 slice-aggregate-beginning-case : tie.Need-slice-aggregate-beginning-case Inv-loop μ-loop
 slice-aggregate-beginning-case c = search needs
 
 slice-aggregate-beginning-case-2 : tie.Need-slice-aggregate-beginning-case-2 Inv-loop μ-loop
 slice-aggregate-beginning-case-2 c = search needs
-
-mul-beginning-case : tie.Need-mul-beginning-case Inv-loop μ-loop
-mul-beginning-case c = search needs
-
-mul-beginning-case-2 : tie.Need-mul-beginning-case-2 Inv-loop μ-loop
-mul-beginning-case-2 c = search needs
-
-add-beginning-case : tie.Need-add-beginning-case Inv-loop μ-loop
-add-beginning-case c = search needs
-
-mul-beginning-case-3 : tie.Need-mul-beginning-case-3 Inv-loop μ-loop
-mul-beginning-case-3 c = search needs
-
-sub-beginning-case : tie.Need-sub-beginning-case Inv-loop μ-loop
-sub-beginning-case c = search needs
-
-part-beginning-case-start : tie.Need-part-beginning-case-start Inv-loop μ-loop
-part-beginning-case-start c = search needs
-
-part-beginning-case-end : tie.Need-part-beginning-case-end Inv-loop μ-loop
-part-beginning-case-end c = search needs
 
 beginning-case-requires : tie.Need-beginning-case-requires Inv-loop μ-loop
 beginning-case-requires c κs = search needs
@@ -62,15 +47,10 @@ beginning-cases-spec =
     Inv-loop
     μ-loop
     loop-holds
+    mul-row
+    array-copy-out-row
     slice-aggregate-beginning-case
     slice-aggregate-beginning-case-2
-    mul-beginning-case
-    mul-beginning-case-2
-    add-beginning-case
-    mul-beginning-case-3
-    sub-beginning-case
-    part-beginning-case-start
-    part-beginning-case-end
     beginning-case-requires
     add-i
     loop-less

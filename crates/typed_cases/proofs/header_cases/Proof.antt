@@ -5,34 +5,19 @@ use Rattle.typed_cases.proofs.header_cases.Statement.{statement}
 use Rattle.typed_cases.proofs.header_cases.Tie as tie
 
 abbrev Inv-loop : tie.InvT-loop
-Inv-loop seen₀ rows i₀ seen i = Unit {0}
+Inv-loop seen₀ i₀ seen i = Unit {0}
 
 abbrev μ-loop : tie.MeasureT-loop
-μ-loop seen₀ rows i₀ seen i = 28 - i
+μ-loop seen₀ i₀ seen i = 28 - i
 
 loop-holds : tie.Need-loop-holds Inv-loop μ-loop
 loop-holds c = search needs
 
-mul-header-case : tie.Need-mul-header-case Inv-loop μ-loop
-mul-header-case c = search needs
+mul-row : tie.Need-mul-row Inv-loop μ-loop
+mul-row c = search needs
 
-mul-header-case-2 : tie.Need-mul-header-case-2 Inv-loop μ-loop
-mul-header-case-2 c = search needs
-
-add-header-case : tie.Need-add-header-case Inv-loop μ-loop
-add-header-case c = search needs
-
-mul-header-case-3 : tie.Need-mul-header-case-3 Inv-loop μ-loop
-mul-header-case-3 c = search needs
-
-sub-header-case : tie.Need-sub-header-case Inv-loop μ-loop
-sub-header-case c = search needs
-
-part-header-case-start : tie.Need-part-header-case-start Inv-loop μ-loop
-part-header-case-start c = search needs
-
-part-header-case-end : tie.Need-part-header-case-end Inv-loop μ-loop
-part-header-case-end c = search needs
+array-copy-out-row : tie.Need-array-copy-out-row Inv-loop μ-loop
+array-copy-out-row c = search needs
 
 header-case-requires : tie.Need-header-case-requires Inv-loop μ-loop
 header-case-requires c κs = search needs
@@ -56,13 +41,8 @@ header-cases-spec =
     Inv-loop
     μ-loop
     loop-holds
-    mul-header-case
-    mul-header-case-2
-    add-header-case
-    mul-header-case-3
-    sub-header-case
-    part-header-case-start
-    part-header-case-end
+    mul-row
+    array-copy-out-row
     header-case-requires
     add-i
     loop-less

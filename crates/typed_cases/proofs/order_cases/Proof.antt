@@ -5,34 +5,19 @@ use Rattle.typed_cases.proofs.order_cases.Statement.{statement}
 use Rattle.typed_cases.proofs.order_cases.Tie as tie
 
 abbrev Inv-loop : tie.InvT-loop
-Inv-loop seen₀ file rows i₀ seen i = Unit {0}
+Inv-loop seen₀ file i₀ seen i = Unit {0}
 
 abbrev μ-loop : tie.MeasureT-loop
-μ-loop seen₀ file rows i₀ seen i = 12 - i
+μ-loop seen₀ file i₀ seen i = 12 - i
 
 loop-holds : tie.Need-loop-holds Inv-loop μ-loop
 loop-holds c = search needs
 
-mul-order-case : tie.Need-mul-order-case Inv-loop μ-loop
-mul-order-case c = search needs
+mul-row : tie.Need-mul-row Inv-loop μ-loop
+mul-row c = search needs
 
-mul-order-case-2 : tie.Need-mul-order-case-2 Inv-loop μ-loop
-mul-order-case-2 c = search needs
-
-add-order-case : tie.Need-add-order-case Inv-loop μ-loop
-add-order-case c = search needs
-
-mul-order-case-3 : tie.Need-mul-order-case-3 Inv-loop μ-loop
-mul-order-case-3 c = search needs
-
-sub-order-case : tie.Need-sub-order-case Inv-loop μ-loop
-sub-order-case c = search needs
-
-part-order-case-start : tie.Need-part-order-case-start Inv-loop μ-loop
-part-order-case-start c = search needs
-
-part-order-case-end : tie.Need-part-order-case-end Inv-loop μ-loop
-part-order-case-end c = search needs
+array-copy-out-row : tie.Need-array-copy-out-row Inv-loop μ-loop
+array-copy-out-row c = search needs
 
 order-case-requires : tie.Need-order-case-requires Inv-loop μ-loop
 order-case-requires c κs = search needs
@@ -56,13 +41,8 @@ order-cases-spec =
     Inv-loop
     μ-loop
     loop-holds
-    mul-order-case
-    mul-order-case-2
-    add-order-case
-    mul-order-case-3
-    sub-order-case
-    part-order-case-start
-    part-order-case-end
+    mul-row
+    array-copy-out-row
     order-case-requires
     add-i
     loop-less

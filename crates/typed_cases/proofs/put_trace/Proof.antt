@@ -7,10 +7,10 @@ use Rattle.typed_cases.proofs.put_trace.Statement.{statement}
 use Rattle.typed_cases.proofs.put_trace.Tie as tie
 
 abbrev Inv-loop : tie.InvT-loop
-Inv-loop file₀ workers operations count k₀ file k = length file ≡ length file₀
+Inv-loop file₀ workers operations k₀ k-end file k = length file ≡ length file₀
 
 abbrev μ-loop : tie.MeasureT-loop
-μ-loop file₀ workers operations count k₀ file k = count - k
+μ-loop file₀ workers operations k₀ k-end file k = k-end - k
 
 cast-put-header : tie.Need-cast-put-header Inv-loop μ-loop
 cast-put-header c = search needs
@@ -20,6 +20,12 @@ put-header-requires c κs = search needs
 
 loop-holds : tie.Need-loop-holds Inv-loop μ-loop
 loop-holds c = search needs
+
+mul-o : tie.Need-mul-o Inv-loop μ-loop
+mul-o c = search needs
+
+shared-slice-copy-out-o : tie.Need-shared-slice-copy-out-o Inv-loop μ-loop
+shared-slice-copy-out-o c = search needs
 
 put-listed-requires : tie.Need-put-listed-requires Inv-loop μ-loop
 put-listed-requires c κs = search needs
@@ -48,6 +54,8 @@ put-trace-spec =
     cast-put-header
     put-header-requires
     loop-holds
+    mul-o
+    shared-slice-copy-out-o
     put-listed-requires
     add-k
     loop-less

@@ -5,10 +5,10 @@ use Rattle.typed_cases.proofs.record_cases.Statement.{statement}
 use Rattle.typed_cases.proofs.record_cases.Tie as tie
 
 abbrev Inv-loop : tie.InvT-loop
-Inv-loop seen₀ rows i₀ seen i = Unit {0}
+Inv-loop seen₀ i₀ seen i = Unit {0}
 
 abbrev μ-loop : tie.MeasureT-loop
-μ-loop seen₀ rows i₀ seen i = 40 - i
+μ-loop seen₀ i₀ seen i = 40 - i
 
 loop-holds : tie.Need-loop-holds Inv-loop μ-loop
 loop-holds c = search needs
@@ -16,23 +16,8 @@ loop-holds c = search needs
 mul-row : tie.Need-mul-row Inv-loop μ-loop
 mul-row c = search needs
 
-mul-row-2 : tie.Need-mul-row-2 Inv-loop μ-loop
-mul-row-2 c = search needs
-
-add-row : tie.Need-add-row Inv-loop μ-loop
-add-row c = search needs
-
-mul-row-3 : tie.Need-mul-row-3 Inv-loop μ-loop
-mul-row-3 c = search needs
-
-sub-row : tie.Need-sub-row Inv-loop μ-loop
-sub-row c = search needs
-
-part-row-start : tie.Need-part-row-start Inv-loop μ-loop
-part-row-start c = search needs
-
-part-row-end : tie.Need-part-row-end Inv-loop μ-loop
-part-row-end c = search needs
+array-copy-out-row : tie.Need-array-copy-out-row Inv-loop μ-loop
+array-copy-out-row c = search needs
 
 record-case-requires : tie.Need-record-case-requires Inv-loop μ-loop
 record-case-requires c κs = search needs
@@ -60,12 +45,7 @@ record-cases-spec =
     μ-loop
     loop-holds
     mul-row
-    mul-row-2
-    add-row
-    mul-row-3
-    sub-row
-    part-row-start
-    part-row-end
+    array-copy-out-row
     record-case-requires
     record-case-requires-2
     add-i
