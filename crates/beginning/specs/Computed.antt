@@ -1,6 +1,6 @@
 -- The beginning of a run, computed: how long it is, which list it is a part of, its numbers and where it starts; and
 -- the call's promise. All but the promise is a means: proofs/Beginnings shows that it is what Returned says.
--- Follows: document 01, "The beginning of a run". The enum is that of src/lib.rt.
+-- Follows: document 01, "Parts beside the order": "The beginning of a run". The enum is that of src/lib.rt.
 -- Differs: nowhere. That the two numbers differ is not asked: where one first appears before the other, they do.
 use mathlib.Core.Bool.{cond}
 use mathlib.Core.List.{List, [], _∷_}

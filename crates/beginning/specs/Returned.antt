@@ -1,5 +1,5 @@
 -- The beginning of a run: which part of which list the call returns.
--- Follows: document 01, "The beginning of a run".
+-- Follows: document 01, "Parts beside the order": "The beginning of a run".
 -- Differs: nowhere. The lists are any numbers, in any order, repeated or not; both may be the same list, or empty.
 use mathlib.Core.List.{List, [], _∷_, _++_}
 use mathlib.Core.Logic.{_≢_}

@@ -1,6 +1,7 @@
-// Makes each call on a file, and compares what it answers and what it leaves in lent memory with what all runs say.
-use expected::Facts;
-use told::Told;
+// Makes the calls on a file, all but the race list on records and the report, and compares what each answers and what
+// it leaves in lent memory with what all runs say.
+use answers::Answer;
+use expected::Judgement;
 
 // What was seen, counted by kind: calls by the number of their refusal, where 0 is success; from FILES on, files by the
 // number by which they are refused, where 0 is accepted; and the kinds below.
@@ -8,21 +9,26 @@ pub const KINDS: usize = 64;
 
 pub const FILES: usize = 20;
 
-pub const MISMATCHES: usize = 40;
+pub const RUNS: usize = 40;
 
-pub const RUNS: usize = 41;
+pub const COMPLETE: usize = 41;
 
-pub const COMPLETE: usize = 42;
+pub const SHARED_EVENTS: usize = 42;
 
+// The ordered pairs, of these those of different workers, and of these those in conflict.
 pub const ORDERED: usize = 43;
 
-pub const UNORDERED: usize = 44;
+pub const ORDERED_APART: usize = 44;
 
-pub const RACES: usize = 45;
+pub const CONFLICTS_ORDERED: usize = 45;
 
-pub const SHARED_EVENTS: usize = 46;
+pub const UNORDERED: usize = 46;
 
-pub const BEGINNINGS: usize = 47;
+pub const RACES: usize = 47;
+
+pub const BEGINNINGS: usize = 48;
+
+pub const MISMATCHES: usize = 49;
 
 pub fn count(seen: &mut [u64; KINDS], kind: usize, by: u64) {
     seen[kind % KINDS] = seen[kind % KINDS] % 1000000000000 + by % 1000000000000;
@@ -65,7 +71,7 @@ fn holds(memory: &[u16], due: &[u16], length: usize) -> bool {
 }
 
 fn byte_filler(i: usize) -> u8 {
-    (i % 100 + 100) as u8
+    (i % 128 + 128) as u8
 }
 
 fn fill_bytes(memory: &mut [u8]) {
@@ -105,59 +111,69 @@ fn less_one(n: usize) -> usize {
 
 // Reading a file
 
-fn accept_due(f: Facts) -> Told {
-    if f.number != 0 {
-        return told::refusal(f.number, f.place);
+fn accept_due(judgement: Judgement) -> Answer {
+    if judgement.number != 0 {
+        return answers::refusal(judgement.number, judgement.place);
     }
-    told::success(f.workers as u32, number(f.count), 0)
+    answers::success(judgement.workers as u32, number(judgement.count), 0)
 }
 
 // The order table
 
 // How many numbers the table has: a row for each operation.
-fn table_size(f: Facts) -> usize {
+fn table_size(judgement: Judgement) -> usize {
     let mut size: usize = 0;
     for k in 0..8 {
-        if k < f.count {
-            size = size % 200 + f.workers as usize;
+        if k < judgement.count {
+            size = size % 200 + judgement.workers as usize;
         }
     }
     size
 }
 
-fn table_due(f: Facts, size: usize) -> Told {
-    if f.number == 0 && size < table_size(f) {
-        return told::refusal(11, 0);
+fn table_due(judgement: Judgement, size: usize) -> Answer {
+    if judgement.number == 0 && size < table_size(judgement) {
+        return answers::refusal(11, 0);
     }
-    accept_due(f)
+    accept_due(judgement)
 }
 
-fn table_call(seen: &mut [u64; KINDS], file: &[u8], f: Facts, rows: &[u16; 136], size: usize) {
+fn table_call(
+    seen: &mut [u64; KINDS],
+    file: &[u8],
+    judgement: Judgement,
+    rows: &[u16; 136],
+    size: usize,
+) {
     let mut table = [0u16; 136];
     fill(&mut table);
-    let told = told::told_table(file, &mut table, size);
-    let due = table_due(f, size);
-    let written = if due.number == 0 { table_size(f) } else { 0 };
+    let answer = answers::table_answer(file, &mut table, size);
+    let due = table_due(judgement, size);
+    let written = if due.number == 0 {
+        table_size(judgement)
+    } else {
+        0
+    };
     note(
         seen,
         due.number,
-        told::same(told, due) && holds(&table, rows, written),
+        answers::same(answer, due) && holds(&table, rows, written),
     );
 }
 
 // The order of a pair
 
-fn order_due(f: Facts, orders: &[u32; 64], a: usize, b: usize) -> Told {
-    if f.number != 0 {
-        return told::refusal(f.number, f.place);
+fn order_due(judgement: Judgement, orders: &[u32; 64], a: usize, b: usize) -> Answer {
+    if judgement.number != 0 {
+        return answers::refusal(judgement.number, judgement.place);
     }
-    if f.count <= a || f.count <= b {
-        return told::refusal(12, 0);
+    if judgement.count <= a || judgement.count <= b {
+        return answers::refusal(12, 0);
     }
     if a == b {
-        return told::refusal(13, 0);
+        return answers::refusal(13, 0);
     }
-    told::success(orders[a % 8 * 8 + b % 8], 0, 0)
+    answers::success(orders[a % 8 * 8 + b % 8], 0, 0)
 }
 
 // The beginning of a run
@@ -193,29 +209,38 @@ fn part_due(list: &[u16], chosen: usize, other: usize) -> usize {
     0
 }
 
-fn is_start(part: &[u16], list: &[u16], length: usize) -> bool {
-    for i in 0..part.len() {
-        if list.len() <= i || part[i] != list[i] {
-            return false;
-        }
+// Which list and how many of its numbers, where such are the lengths of the two lists' parts.
+fn prefix_due(of_first: usize, of_second: usize) -> Answer {
+    if 0 < of_first || of_second == 0 {
+        return answers::success(0, number(of_first), 0);
     }
-    part.len() == length
+    answers::success(1, number(of_second), 0)
 }
 
 // Is the beginning the part of the first list, failing that of the second, failing both the empty part?
-pub fn beginning_holds<'a>(
+fn beginning_holds<'a>(first: &'a [u16], second: &'a [u16], chosen: usize, other: usize) -> bool {
+    let due = prefix_due(
+        part_due(first, chosen, other),
+        part_due(second, chosen, other),
+    );
+    let answer = answers::prefix_answer(first, second, number(chosen), number(other));
+    let part = beginning::beginning(first, second, number(chosen), number(other));
+    let list = if due.x == 0 { first } else { second };
+    answers::same(answer, due) && part.len() == due.y as usize && answers::starts_with(list, part)
+}
+
+// The beginning of two lists of any numbers, counted where there is one.
+pub fn beginning_call<'a>(
+    seen: &mut [u64; KINDS],
     first: &'a [u16],
     second: &'a [u16],
     chosen: usize,
     other: usize,
-) -> bool {
-    let of_first = part_due(first, chosen, other);
-    let of_second = part_due(second, chosen, other);
-    let part = beginning::beginning(first, second, number(chosen), number(other));
-    if 0 < of_first {
-        return is_start(part, first, of_first);
+) {
+    if 0 < part_due(first, chosen, other) || 0 < part_due(second, chosen, other) {
+        count(seen, BEGINNINGS, 1);
     }
-    is_start(part, second, of_second)
+    note(seen, 0, beginning_holds(first, second, chosen, other));
 }
 
 // The two runs
@@ -258,17 +283,17 @@ fn buffers_hold<'a>(
 }
 
 // What is due from the two runs, where `order` is due from the pair order.
-fn runs_due(order: Told, n: usize, first_size: usize, second_size: usize) -> Told {
+fn runs_due(order: Answer, n: usize, first_size: usize, second_size: usize) -> Answer {
     if order.number != 0 {
         return order;
     }
     if order.x != 0 {
-        return told::refusal(14, 0);
+        return answers::refusal(14, 0);
     }
     if first_size < n || second_size < n {
-        return told::refusal(15, 0);
+        return answers::refusal(15, 0);
     }
-    told::success(number(n), 0, 0)
+    answers::success(number(n), 0, 0)
 }
 
 fn runs_call(
@@ -276,7 +301,7 @@ fn runs_call(
     file: &[u8],
     a: usize,
     b: usize,
-    due: Told,
+    due: Answer,
     first_size: usize,
     second_size: usize,
 ) {
@@ -284,7 +309,7 @@ fn runs_call(
     let mut second = [0u16; 12];
     fill(&mut first);
     fill(&mut second);
-    let told = told::told_runs(
+    let answer = answers::runs_answer(
         file,
         number(a),
         number(b),
@@ -298,7 +323,7 @@ fn runs_call(
     } else {
         holds(&first, &first, 0) && holds(&second, &second, 0)
     };
-    note(seen, due.number, told::same(told, due) && memory);
+    note(seen, due.number, answers::same(answer, due) && memory);
     if due.number == 0 {
         count(seen, BEGINNINGS, 3);
     }
@@ -315,12 +340,21 @@ fn room(n: usize, way: usize) -> usize {
     less_one(n)
 }
 
-fn count_order(seen: &mut [u64; KINDS], order: Told) {
-    if order.number == 0 && order.x == 0 {
-        count(seen, UNORDERED, 1);
+fn count_order(seen: &mut [u64; KINDS], file: &[u8], order: Answer, a: usize, b: usize) {
+    if order.number != 0 {
+        return;
     }
-    if order.number == 0 && order.x != 0 {
-        count(seen, ORDERED, 1);
+    if order.x == 0 {
+        count(seen, UNORDERED, 1);
+        return;
+    }
+    count(seen, ORDERED, 1);
+    let t = small_file::small_trace(file);
+    if t.worker[a % 8] != t.worker[b % 8] {
+        count(seen, ORDERED_APART, 1);
+        if expected::conflict(t, a, b) {
+            count(seen, CONFLICTS_ORDERED, 1);
+        }
     }
 }
 
@@ -328,20 +362,20 @@ fn count_order(seen: &mut [u64; KINDS], order: Told) {
 fn pair_call(
     seen: &mut [u64; KINDS],
     file: &[u8],
-    f: Facts,
+    judgement: Judgement,
     orders: &[u32; 64],
     a: usize,
     b: usize,
     way: usize,
 ) {
-    let n = f.count;
-    let order = order_due(f, orders, a, b);
+    let n = judgement.count;
+    let order = order_due(judgement, orders, a, b);
     note(
         seen,
         order.number,
-        told::same(told::told_order(file, number(a), number(b)), order),
+        answers::same(answers::order_answer(file, number(a), number(b)), order),
     );
-    count_order(seen, order);
+    count_order(seen, file, order, a, b);
     let first_size = room(n, way);
     let second_size = room(n, way / 3);
     let due = runs_due(order, n, first_size, second_size);
@@ -349,11 +383,21 @@ fn pair_call(
 }
 
 // Each pair of numbers up to the operation count; of a refused file only of 0 and 1.
-fn pair_calls(seen: &mut [u64; KINDS], file: &[u8], f: Facts, orders: &[u32; 64], way: usize) {
-    let most = if f.number == 0 { f.count } else { 1 };
+fn pair_calls(
+    seen: &mut [u64; KINDS],
+    file: &[u8],
+    judgement: Judgement,
+    orders: &[u32; 64],
+    way: usize,
+) {
+    let most = if judgement.number == 0 {
+        judgement.count
+    } else {
+        1
+    };
     for i in 0..81 {
         if i / 9 <= most && i % 9 <= most {
-            pair_call(seen, file, f, orders, i / 9, i % 9, way % 9 + i);
+            pair_call(seen, file, judgement, orders, i / 9, i % 9, way % 9 + i);
         }
     }
 }
@@ -361,18 +405,18 @@ fn pair_calls(seen: &mut [u64; KINDS], file: &[u8], f: Facts, orders: &[u32; 64]
 // The race list
 
 // What is due from the race list, where `table` is due from the order table.
-fn races_due(table: Told, races: usize, lower_size: usize, higher_size: usize) -> Told {
+fn races_due(table: Answer, races: usize, lower_size: usize, higher_size: usize) -> Answer {
     if table.number != 0 {
         return table;
     }
     if lower_size < races || higher_size < races {
-        return told::refusal(16, number(races));
+        return answers::refusal(16, number(races));
     }
-    told::success(table.x, table.y, number(races))
+    answers::success(table.x, table.y, number(races))
 }
 
 // Do the two lists hold all races after success, and else what was there?
-fn lists_hold(file: &[u8], orders: &[u32; 64], due: Told, lower: &[u16], higher: &[u16]) -> bool {
+fn lists_hold(file: &[u8], orders: &[u32; 64], due: Answer, lower: &[u16], higher: &[u16]) -> bool {
     let mut lower_due = [0u16; 28];
     let mut higher_due = [0u16; 28];
     let races = expected::races_of(file, orders, &mut lower_due, &mut higher_due);
@@ -380,16 +424,15 @@ fn lists_hold(file: &[u8], orders: &[u32; 64], due: Told, lower: &[u16], higher:
     holds(lower, &lower_due, written) && holds(higher, &higher_due, written)
 }
 
-fn races_call(
+// The race list with a table and two lists of these sizes.
+fn race_call(
     seen: &mut [u64; KINDS],
     file: &[u8],
+    judgement: Judgement,
     rows: &[u16; 136],
-    rows_size: usize,
     orders: &[u32; 64],
-    due: Told,
-    table_size: usize,
-    lower_size: usize,
-    higher_size: usize,
+    races: usize,
+    sizes: [usize; 3],
 ) {
     let mut table = [0u16; 136];
     let mut lower = [0u16; 34];
@@ -397,56 +440,32 @@ fn races_call(
     fill(&mut table);
     fill(&mut lower);
     fill(&mut higher);
-    let told = told::told_races(
+    let of_table = table_due(judgement, sizes[0]);
+    let due = races_due(of_table, races, sizes[1], sizes[2]);
+    let answer = answers::races_answer(
         file,
         &mut table,
-        table_size,
+        sizes[0],
         &mut lower,
-        lower_size,
+        sizes[1],
         &mut higher,
-        higher_size,
+        sizes[2],
     );
-    let filled = if due.number == 0 || due.number == 16 {
-        rows_size
+    let filled = if of_table.number == 0 {
+        table_size(judgement)
     } else {
         0
     };
     let memory = holds(&table, rows, filled) && lists_hold(file, orders, due, &lower, &higher);
-    note(seen, due.number, told::same(told, due) && memory);
+    note(seen, due.number, answers::same(answer, due) && memory);
 }
 
-// Three sizes: of the table and of the two lists.
-fn race_call(
-    seen: &mut [u64; KINDS],
-    file: &[u8],
-    f: Facts,
-    rows: &[u16; 136],
-    orders: &[u32; 64],
-    races: usize,
-    room: usize,
-    lower_size: usize,
-    higher_size: usize,
-) {
-    let due = races_due(table_due(f, room), races, lower_size, higher_size);
-    let size = table_size(f);
-    races_call(
-        seen,
-        file,
-        rows,
-        size,
-        orders,
-        due,
-        room,
-        lower_size,
-        higher_size,
-    );
-}
-
-fn race_count(file: &[u8], f: Facts, orders: &[u32; 64]) -> usize {
+// How many races there are; of a refused file 20, so that lists are lent.
+fn race_count(file: &[u8], judgement: Judgement, orders: &[u32; 64]) -> usize {
     let mut lower = [0u16; 28];
     let mut higher = [0u16; 28];
-    if f.number != 0 {
-        return 0;
+    if judgement.number != 0 {
+        return 20;
     }
     expected::races_of(file, orders, &mut lower, &mut higher)
 }
@@ -455,147 +474,120 @@ fn race_count(file: &[u8], f: Facts, orders: &[u32; 64]) -> usize {
 fn race_calls(
     seen: &mut [u64; KINDS],
     file: &[u8],
-    f: Facts,
+    judgement: Judgement,
     rows: &[u16; 136],
     orders: &[u32; 64],
 ) {
-    let size = table_size(f);
-    let races = race_count(file, f, orders);
+    let size = table_size(judgement);
+    let races = race_count(file, judgement, orders);
     let less = less_one(races);
-    count(seen, RACES, races as u64);
-    race_call(seen, file, f, rows, orders, races, size, races, races);
-    race_call(
-        seen,
-        file,
-        f,
-        rows,
-        orders,
-        races,
-        more(size, 3),
-        more(races, 4),
-        more(races, 6),
-    );
-    race_call(
-        seen,
-        file,
-        f,
-        rows,
-        orders,
-        races,
-        size,
-        less,
-        more(races, 2),
-    );
-    race_call(
-        seen,
-        file,
-        f,
-        rows,
-        orders,
-        races,
-        more(size, 1),
-        races,
-        less,
-    );
-    race_call(
-        seen,
-        file,
-        f,
-        rows,
-        orders,
-        races,
-        less_one(size),
-        less,
-        less,
-    );
+    if judgement.number == 0 {
+        count(seen, RACES, races as u64);
+    }
+    let exact = [size, races, races];
+    let long = [more(size, 3), more(races, 4), more(races, 6)];
+    let lower_short = [size, less, more(races, 2)];
+    let higher_short = [more(size, 1), races, less];
+    let table_short = [less_one(size), less, less];
+    race_call(seen, file, judgement, rows, orders, races, exact);
+    race_call(seen, file, judgement, rows, orders, races, long);
+    race_call(seen, file, judgement, rows, orders, races, lower_short);
+    race_call(seen, file, judgement, rows, orders, races, higher_short);
+    race_call(seen, file, judgement, rows, orders, races, table_short);
 }
 
 // The tidy file
 
-fn canonical_due(f: Facts, file_size: usize, size: usize) -> Told {
-    if f.number != 0 {
-        return told::refusal(f.number, f.place);
+fn canonical_due(judgement: Judgement, file_size: usize, size: usize) -> Answer {
+    if judgement.number != 0 {
+        return answers::refusal(judgement.number, judgement.place);
     }
     if size < file_size {
-        return told::refusal(17, 0);
+        return answers::refusal(17, 0);
     }
-    told::success(number(file_size), 0, 0)
+    answers::success(number(file_size), 0, 0)
 }
 
 // Tidies the file into an output of that size, and expects the tidy file.
-fn canonical_call(seen: &mut [u64; KINDS], file: &[u8], f: Facts, tidy: &[u8], size: usize) {
+fn canonical_call(
+    seen: &mut [u64; KINDS],
+    file: &[u8],
+    judgement: Judgement,
+    tidy: &[u8],
+    size: usize,
+) {
     let mut output = [0u8; 104];
     fill_bytes(&mut output);
-    let told = told::told_canonical(file, &mut output, size);
-    let due = canonical_due(f, file.len(), size);
+    let answer = answers::canonical_answer(file, &mut output, size);
+    let due = canonical_due(judgement, file.len(), size);
     let written = if due.number == 0 { file.len() } else { 0 };
     note(
         seen,
         due.number,
-        told::same(told, due) && holds_bytes(&output, tidy, written),
+        answers::same(answer, due) && holds_bytes(&output, tidy, written),
     );
 }
 
 // The tidy file is accepted with the same counts, and its own tidy file is the same.
-fn read_back(seen: &mut [u64; KINDS], f: Facts, tidy: &[u8], size: usize) {
+fn read_back(seen: &mut [u64; KINDS], judgement: Judgement, tidy: &[u8], size: usize) {
     if size <= tidy.len() {
         let file = &tidy[0..size];
         note(
             seen,
-            f.number,
-            told::same(told::told_accept(file), accept_due(f)),
+            judgement.number,
+            answers::same(answers::accept_answer(file), accept_due(judgement)),
         );
-        canonical_call(seen, file, f, tidy, size);
+        canonical_call(seen, file, judgement, tidy, size);
     }
 }
 
-fn canonical_calls(seen: &mut [u64; KINDS], file: &[u8], f: Facts) {
+fn canonical_calls(seen: &mut [u64; KINDS], file: &[u8], judgement: Judgement) {
     let mut tidy = [0u8; 90];
     let size = file.len();
-    small_file::tidy_file(file, &mut tidy);
-    canonical_call(seen, file, f, &tidy, size);
-    canonical_call(seen, file, f, &tidy, less_one(size));
-    canonical_call(seen, file, f, &tidy, more(size, 4));
-    if f.number == 0 {
-        read_back(seen, f, &tidy, size);
+    small_file::canonical_file(file, &mut tidy);
+    canonical_call(seen, file, judgement, &tidy, size);
+    canonical_call(seen, file, judgement, &tidy, less_one(size));
+    canonical_call(seen, file, judgement, &tidy, more(size, 4));
+    if judgement.number == 0 {
+        read_back(seen, judgement, &tidy, size);
     }
 }
 
 // All calls
 
-fn count_facts(seen: &mut [u64; KINDS], f: Facts) {
-    count(seen, FILES + f.number as usize % 18, 1);
-    count(seen, RUNS, f.runs);
-    count(seen, COMPLETE, f.complete);
-    if f.shared {
+fn count_judgement(seen: &mut [u64; KINDS], judgement: Judgement) {
+    count(seen, FILES + judgement.number as usize % 18, 1);
+    count(seen, RUNS, judgement.runs);
+    count(seen, COMPLETE, judgement.complete);
+    if judgement.shared {
         count(seen, SHARED_EVENTS, 1);
     }
-    if !f.sound {
+    if !judgement.sound {
         count(seen, MISMATCHES, 1);
     }
 }
 
-fn table_calls(seen: &mut [u64; KINDS], file: &[u8], f: Facts, rows: &[u16; 136]) {
-    let size = table_size(f);
-    table_call(seen, file, f, rows, size);
-    table_call(seen, file, f, rows, less_one(size));
-    table_call(seen, file, f, rows, more(size, 5));
+fn table_calls(seen: &mut [u64; KINDS], file: &[u8], judgement: Judgement, rows: &[u16; 136]) {
+    let size = table_size(judgement);
+    table_call(seen, file, judgement, rows, size);
+    table_call(seen, file, judgement, rows, less_one(size));
+    table_call(seen, file, judgement, rows, more(size, 5));
 }
 
-// Makes every call on any bytes; `way` decides on the sizes of run buffers. A file of more than eight operations counts
-// as a mismatch unless one of the questions 1 to 9 refuses it.
+// Makes these calls on any bytes; `way` decides on the sizes of run buffers. A file of more than eight operations
+// counts as a mismatch unless one of the questions 1 to 9 refuses it.
 pub fn compare_calls(seen: &mut [u64; KINDS], file: &[u8], way: usize) {
     let mut rows = [0u16; 136];
     let mut orders = [0u32; 64];
-    let f = expected::facts_of(file, &mut rows, &mut orders);
-    count_facts(seen, f);
+    let judgement = expected::judgement_of(file, &mut rows, &mut orders);
+    count_judgement(seen, judgement);
     note(
         seen,
-        f.number,
-        told::same(told::told_accept(file), accept_due(f)),
+        judgement.number,
+        answers::same(answers::accept_answer(file), accept_due(judgement)),
     );
-    table_calls(seen, file, f, &rows);
-    pair_calls(seen, file, f, &orders, way);
-    race_calls(seen, file, f, &rows, &orders);
-    canonical_calls(seen, file, f);
+    table_calls(seen, file, judgement, &rows);
+    pair_calls(seen, file, judgement, &orders, way);
+    race_calls(seen, file, judgement, &rows, &orders);
+    canonical_calls(seen, file, judgement);
 }

@@ -1,16 +1,13 @@
-// Runs the calls on typed cases, on random traces of up to eight operations and four workers, and on damaged files,
-// compares their answers and lent memory with what is due, and prints what was seen.
+// Runs the calls on the typed cases of its standard input, on random traces of up to eight operations and four workers,
+// on random pairs of lists, and on damaged files, compares their answers and lent memory with what is due, and prints
+// what was seen.
 ghost use Prim.Native.Nat.{_≤_};
 use comparison::BEGINNINGS;
-use comparison::COMPLETE;
 use comparison::FILES;
 use comparison::KINDS;
 use comparison::MISMATCHES;
-use comparison::ORDERED;
-use comparison::RACES;
 use comparison::RUNS;
-use comparison::SHARED_EVENTS;
-use comparison::UNORDERED;
+use libc::STDIN_FILENO;
 use libc::STDOUT_FILENO;
 
 // What is tried
@@ -32,10 +29,18 @@ fn below(seed: u64, bound: u64) -> u32
     0
 }
 
-// The kinds of a trace: all alike, mostly Posts and Waits, mostly accesses, or mostly Writes and Posts.
-fn kind_of(style: u32, seed: u64) -> u32 {
+// The kinds of a trace: all alike, mostly Posts and Waits, mostly accesses, mostly Writes and Posts; or one worker
+// writes and posts what the next waits for and reads.
+fn kind_of(style: u32, worker: u32, seed: u64) -> u32 {
     let kind = below(seed, 4) + 1;
     let often = below(seed / 64, 2);
+    if style == 4 {
+        return if worker % 2 == 0 {
+            kind % 2 * 3 + 1
+        } else {
+            kind % 2 + 2
+        };
+    }
     if often == 0 || style == 0 {
         return kind;
     }
@@ -48,15 +53,19 @@ fn kind_of(style: u32, seed: u64) -> u32 {
     kind % 2 * 3 + 1
 }
 
-// Events of one trace are few, and lie at the edges of the four words.
+// A trace has one event or two, which lie in one of the four words or in two.
 fn event_of(pool: u32, seed: u64) -> u32 {
     let events: [u32; 12] = [0, 1, 31, 32, 63, 64, 127, 128, 191, 192, 254, 255];
-    events[(pool as usize % 12 + below(seed, 2) as usize * 5) % 12]
+    let first = pool as usize % 12;
+    if below(seed, 2) == 0 {
+        return events[first % 12];
+    }
+    events[(first + pool as usize / 12 % 5) % 12]
 }
 
-// Cells of one trace lie close together, at the lower end, in the middle, or at the upper end.
+// Cells of one trace lie close together, at the lower end, in the middle, or up to the last cell.
 fn cell_of(pool: u32, seed: u64) -> u32 {
-    let cells: [u32; 4] = [0, 7, 2147483646, 4294967285];
+    let cells: [u32; 4] = [0, 7, 2147483646, 4294967287];
     cells[pool as usize % 4] % 4294967290 + below(seed, 6) % 6
 }
 
@@ -73,7 +82,7 @@ fn random_operation(file: &mut [u8], k: usize, workers: u32, pool: u32, style: u
     let third = next(second);
     let fourth = next(third);
     let worker = below(seed, workers as u64);
-    let kind = kind_of(style, second);
+    let kind = kind_of(style, worker, second);
     if kind < 3 {
         test_files::put_operation(file, k, worker, kind, event_of(pool, third), 0);
         return;
@@ -111,7 +120,7 @@ fn random_trace(file: &mut [u8], seed: u64) -> usize {
         count as usize,
         workers,
         below(third, 60),
-        below(third / 64, 4),
+        below(third / 64, 5),
         next(fourth),
     );
     10 + count as usize * 10
@@ -169,7 +178,7 @@ fn trace_case(seen: &mut [u64; KINDS], seed: u64, i: usize) {
 fn damaged_case(seen: &mut [u64; KINDS], seed: u64, i: usize) {
     let mut file = [0u8; SIZE];
     let size = random_trace(&mut file, seed);
-    let left = damaged(&mut file, size, next(seed / 2 + 1));
+    let left = damaged(&mut file, size, next(seed / 3 + 1));
     judge(seen, &file, left, i);
 }
 
@@ -198,12 +207,7 @@ fn beginning_of<'a>(
     if first_length <= first.len() && second_length <= second.len() {
         let list = &first[0..first_length];
         let failing = &second[0..second_length];
-        comparison::count(seen, BEGINNINGS, 1);
-        comparison::note(
-            seen,
-            0,
-            comparison::beginning_holds(list, failing, chosen, other),
-        );
+        comparison::beginning_call(seen, list, failing, chosen, other);
     }
 }
 
@@ -240,7 +244,7 @@ fn random_traces(seen: &mut [u64; KINDS], count: usize) {
     let mut seed: u64 = 1;
     for i in 0..count {
         seed = next(seed);
-        trace_case(seen, seed, i);
+        trace_case(seen, next(seed / 2 + 1), i);
     }
 }
 
@@ -249,7 +253,7 @@ fn damaged_files(seen: &mut [u64; KINDS], count: usize) {
     let mut seed: u64 = 1000003;
     for i in 0..count {
         seed = next(seed);
-        damaged_case(seen, seed, i);
+        damaged_case(seen, next(seed / 2 + 1), i);
     }
 }
 
@@ -275,26 +279,57 @@ fn print_all_refused(label: &[u8], seen: &[u64; KINDS], from: usize) {
     }
 }
 
+// The number behind label i, of labels of 32 bytes, each on a line.
+fn print_kind(labels: &[u8], i: usize, x: u64) {
+    let at = i % 16 * 33 + 1;
+    if at + 32 <= labels.len() {
+        io::write_all(STDOUT_FILENO, &labels[at..at + 32]);
+        print_number(b" ", x);
+    }
+}
+
+fn print_kinds(labels: &[u8], seen: &[u64; KINDS]) {
+    for i in 0..10 {
+        print_kind(labels, i, seen[RUNS + i]);
+    }
+}
+
 fn print_seen(seen: &[u64; KINDS]) {
     print_number(b"  accepted: ", seen[FILES]);
     print_all_refused(b"  refused ", seen, FILES);
-    print_number(b"  with a Wait of several Posts: ", seen[SHARED_EVENTS]);
-    print_number(b"  runs tried: ", seen[RUNS]);
-    print_number(b"  complete runs: ", seen[COMPLETE]);
-    print_number(b"  pairs ordered: ", seen[ORDERED]);
-    print_number(b"  pairs not ordered: ", seen[UNORDERED]);
-    print_number(b"  races: ", seen[RACES]);
     print_number(b"  calls that succeeded: ", seen[0]);
     print_all_refused(b"  calls refused ", seen, 0);
-    print_number(b"  beginnings of runs: ", seen[BEGINNINGS]);
-    print_number(b"  mismatches: ", seen[MISMATCHES]);
+    print_kinds(
+        b"
+  runs tried ...................
+  complete runs ................
+  a Wait of several Posts ......
+  pairs ordered ................
+  of these, different workers ..
+  of these, in conflict ........
+  pairs not ordered ............
+  races ........................
+  beginnings of runs ...........
+  mismatches ...................
+",
+        seen,
+    );
 }
 
-fn typed_part() -> u64 {
-    let t = typed_cases::typed_cases();
+fn typed_of(text: &[u8], length: usize) -> u64 {
+    if text.len() < length {
+        return 1;
+    }
+    let t = typed_cases::typed_cases(&text[0..length]);
     print_number(b"typed answers ", t.given);
     print_number(b"  mismatches: ", t.mismatches);
     t.mismatches
+}
+
+fn typed_part() -> u64 {
+    let mut text = [0u8; 16384];
+    let length = io::read_full(STDIN_FILENO, &mut text);
+    typed_of(&text, length)
 }
 
 // How many random traces, how many damaged files and how many pairs of lists.
@@ -303,7 +338,6 @@ const CASES: usize = 40000;
 fn random_part() -> u64 {
     let mut seen = [0u64; KINDS];
     random_traces(&mut seen, CASES);
-    random_lists(&mut seen, CASES);
     print_number(b"random traces ", CASES as u64);
     print_seen(&seen);
     seen[MISMATCHES]
@@ -317,9 +351,19 @@ fn damaged_part() -> u64 {
     seen[MISMATCHES]
 }
 
+fn lists_part() -> u64 {
+    let mut seen = [0u64; KINDS];
+    random_lists(&mut seen, CASES);
+    print_number(b"pairs of lists ", CASES as u64);
+    print_number(b"  with a beginning: ", seen[BEGINNINGS]);
+    print_number(b"  mismatches: ", seen[MISMATCHES]);
+    seen[MISMATCHES]
+}
+
 fn main() {
     let typed = typed_part() % 1000000000000;
     let random = random_part() % 1000000000000;
     let damaged = damaged_part() % 1000000000000;
-    print_number(b"mismatches ", typed + random + damaged);
+    let lists = lists_part() % 1000000000000;
+    print_number(b"mismatches ", typed + random + damaged + lists);
 }

@@ -1,5 +1,5 @@
 // Runs of a trace of up to eight operations, by document 01's definition: every one of them is tried.
-use small_file::Small;
+use small_file::SmallTrace;
 
 // A set of operations has a bit for each: whether x is in it.
 pub fn has(set: u8, x: usize) -> bool {
@@ -18,55 +18,40 @@ pub struct Rules {
     pub posts: [u8; 8],
 }
 
-fn is_earlier(t: Small, y: usize, x: usize) -> bool {
+fn is_earlier(t: SmallTrace, y: usize, x: usize) -> bool {
     y < x && t.worker[y % 8] == t.worker[x % 8]
 }
 
-fn is_post_for(t: Small, y: usize, x: usize) -> bool {
-    y < t.count && t.kind[y % 8] == 1 && t.first[y % 8] == t.first[x % 8]
+fn is_post_for(t: SmallTrace, y: usize, x: usize) -> bool {
+    y < t.count && t.kind[y % 8] == 1 && t.number[y % 8] == t.number[x % 8]
 }
 
-fn earlier_of(t: Small, x: usize) -> u8 {
-    let mut set: u8 = 0;
-    for y in 0..8 {
-        if is_earlier(t, y, x) {
-            set = with(set, y);
-        }
-    }
-    set
-}
-
-fn posts_for(t: Small, x: usize) -> u8 {
-    let mut set: u8 = 0;
-    for y in 0..8 {
-        if is_post_for(t, y, x) {
-            set = with(set, y);
-        }
-    }
-    set
-}
-
-fn with_rule(r: Rules, t: Small, x: usize) -> Rules {
+// Notes what y is for x: an earlier operation of its worker, a Post of its event.
+fn with_pair(r: Rules, t: SmallTrace, x: usize, y: usize) -> Rules {
     let mut more = r;
-    let earlier = earlier_of(t, x);
-    let posts = posts_for(t, x);
-    more.earlier[x % 8] = earlier;
-    more.posts[x % 8] = posts;
+    let earlier = with(r.earlier[x % 8], y);
+    let posts = with(r.posts[x % 8], y);
+    if is_earlier(t, y, x) {
+        more.earlier[x % 8] = earlier;
+    }
+    if is_post_for(t, y, x) {
+        more.posts[x % 8] = posts;
+    }
     if t.kind[x % 8] == 2 {
         more.waits = with(r.waits, x);
     }
     more
 }
 
-pub fn rules_of(t: Small) -> Rules {
+pub fn rules_of(t: SmallTrace) -> Rules {
     let mut r = Rules {
         count: t.count,
         waits: 0,
         earlier: [0; 8],
         posts: [0; 8],
     };
-    for x in 0..8 {
-        r = with_rule(r, t, x);
+    for i in 0..64 {
+        r = with_pair(r, t, i / 8, i % 8);
     }
     r
 }

@@ -1,9 +1,9 @@
 // What is due from the calls on a file of up to eight operations: what all its runs say, by document 01's words.
 use every_run::Rules;
-use small_file::Small;
+use small_file::SmallTrace;
 
 // How many operations of worker q are in the set.
-fn of_worker(t: Small, set: u8, q: usize) -> u16 {
+fn of_worker(t: SmallTrace, set: u8, q: usize) -> u16 {
     let mut n: u16 = 0;
     for x in 0..8 {
         if x < t.count && every_run::has(set, x) && t.worker[x] as usize == q {
@@ -13,10 +13,11 @@ fn of_worker(t: Small, set: u8, q: usize) -> u16 {
     n
 }
 
-// The counts of a file, and the first "no" among questions 1 to 10 with its place, or 0. `sound` says that the search
-// came to its end, that each largest run contains every run that lacks its operation, and that a trace with a complete
-// run has no dead end; `shared`, that some Wait has several Posts.
-pub struct Facts {
+// The counts of a file, and the first "no" among questions 1 to 10 with its place, or 0; where one of the questions 1
+// to 9 refuses, the counts are the largest here, so that memory is lent. `sound` says that the search came to its end,
+// that each largest run contains every run that lacks its operation, and that a trace with a complete run has no dead
+// end; `shared`, that the file is accepted and the event of some Wait has several Posts.
+pub struct Judgement {
     pub number: u8,
     pub place: u32,
     pub workers: u8,
@@ -44,7 +45,7 @@ fn are_largest(reached: &[bool; 256], largest: &[u8; 8]) -> bool {
 }
 
 // Entry q of row k at k × p + q.
-fn fill_rows(t: Small, largest: &[u8; 8], rows: &mut [u16; 136]) {
+fn fill_rows(t: SmallTrace, largest: &[u8; 8], rows: &mut [u16; 136]) {
     let p = t.workers as usize;
     for i in 0..136 {
         if 0 < p {
@@ -54,16 +55,16 @@ fn fill_rows(t: Small, largest: &[u8; 8], rows: &mut [u16; 136]) {
 }
 
 // Is operation a certain before b? No complete run has b before it.
-fn is_certain_before(after: &[u8; 8], a: usize, b: usize) -> bool {
+fn must_precede(after: &[u8; 8], a: usize, b: usize) -> bool {
     a != b && !every_run::has(after[b % 8], a)
 }
 
 // The order of a and b at a × 8 + b: 1 where a is certain before b, 2 where b is certain before a, else 0.
 fn fill_orders(after: &[u8; 8], orders: &mut [u32; 64]) {
     for i in 0..64 {
-        if is_certain_before(after, i / 8, i % 8) {
+        if must_precede(after, i / 8, i % 8) {
             orders[i] = 1;
-        } else if is_certain_before(after, i % 8, i / 8) {
+        } else if must_precede(after, i % 8, i / 8) {
             orders[i] = 2;
         }
     }
@@ -79,7 +80,7 @@ fn has_shared_event(r: Rules) -> bool {
 }
 
 // Question 10, and what all runs say of a trace that the questions 1 to 9 let pass.
-fn judged(t: Small, rows: &mut [u16; 136], orders: &mut [u32; 64]) -> Facts {
+fn judged(t: SmallTrace, rows: &mut [u16; 136], orders: &mut [u32; 64]) -> Judgement {
     let r = every_run::rules_of(t);
     let mut reached = [false; 256];
     let mut after = [0u8; 8];
@@ -90,7 +91,7 @@ fn judged(t: Small, rows: &mut [u16; 136], orders: &mut [u32; 64]) -> Facts {
     fill_rows(t, &largest, rows);
     fill_orders(&after, orders);
     let contained = every_run::contains_runs(&reached, 8, whole) && are_largest(&reached, &largest);
-    Facts {
+    Judgement {
         number: if s.complete == 0 { 10 } else { 0 },
         place: if s.complete == 0 {
             every_run::lowest_outside(r.count, whole)
@@ -100,7 +101,7 @@ fn judged(t: Small, rows: &mut [u16; 136], orders: &mut [u32; 64]) -> Facts {
         workers: t.workers,
         count: t.count,
         sound: s.over && contained && (s.complete == 0 || s.dead_ends == 0) && t.count <= 8,
-        shared: has_shared_event(r),
+        shared: s.complete != 0 && has_shared_event(r),
         runs: s.runs,
         complete: s.complete,
     }
@@ -108,14 +109,14 @@ fn judged(t: Small, rows: &mut [u16; 136], orders: &mut [u32; 64]) -> Facts {
 
 // Questions 1 to 10 of any bytes; of an accepted file of up to eight operations also the rows of its table and the
 // order of each two operations.
-pub fn facts_of(file: &[u8], rows: &mut [u16; 136], orders: &mut [u32; 64]) -> Facts {
+pub fn judgement_of(file: &[u8], rows: &mut [u16; 136], orders: &mut [u32; 64]) -> Judgement {
     let v = small_file::first_no(file);
     if v.number != 0 {
-        return Facts {
+        return Judgement {
             number: v.number,
             place: v.place,
-            workers: 0,
-            count: 0,
+            workers: 16,
+            count: 8,
             sound: true,
             shared: false,
             runs: 0,
@@ -128,13 +129,13 @@ pub fn facts_of(file: &[u8], rows: &mut [u16; 136], orders: &mut [u32; 64]) -> F
 // Races
 
 // Do both access cells, one of them to write, and have they a cell in common? The later start is then a cell of both.
-fn conflict(t: Small, x: usize, y: usize) -> bool {
+pub fn conflict(t: SmallTrace, x: usize, y: usize) -> bool {
     let accesses = 3 <= t.kind[x % 8] && 3 <= t.kind[y % 8];
     if !accesses || t.kind[x % 8] != 4 && t.kind[y % 8] != 4 {
         return false;
     }
-    let x_first = t.first[x % 8];
-    let y_first = t.first[y % 8];
+    let x_first = t.number[x % 8];
+    let y_first = t.number[y % 8];
     if x_first <= y_first {
         return y_first - x_first < t.length[x % 8];
     }
@@ -147,7 +148,7 @@ fn put(list: &mut [u16], i: usize, x: usize) {
     }
 }
 
-fn is_race(t: Small, orders: &[u32; 64], a: usize, b: usize) -> bool {
+fn is_race(t: SmallTrace, orders: &[u32; 64], a: usize, b: usize) -> bool {
     a < b && b < t.count && orders[a % 8 * 8 + b % 8] == 0 && conflict(t, a, b)
 }
 
@@ -182,7 +183,7 @@ pub fn races_of(file: &[u8], orders: &[u32; 64], lower: &mut [u16], higher: &mut
 // The two runs
 
 // The next operation of worker q, the first of its operations that is not done; 8 where there is none.
-fn next_of(t: Small, done: u8, q: usize) -> usize {
+fn next_of(t: SmallTrace, done: u8, q: usize) -> usize {
     for x in 0..8 {
         if x < t.count && t.worker[x] as usize == q && !every_run::has(done, x) {
             return x;
@@ -192,7 +193,7 @@ fn next_of(t: Small, done: u8, q: usize) -> usize {
 }
 
 // The next operation of the lowest-numbered worker whose next operation may run, other than `held`; 8 where none can.
-fn next_by_rule(t: Small, r: Rules, done: u8, held: usize) -> usize {
+fn next_by_rule(t: SmallTrace, r: Rules, done: u8, held: usize) -> usize {
     for q in 0..16 {
         let x = next_of(t, done, q);
         if x != held && every_run::may_follow(r, done, x) {

@@ -1,0 +1,1 @@
+// No code: what a call leaves in lent memory, in specs/ and proofs/.

@@ -19,6 +19,6 @@ pub record Rule : Type 0 where
 pub record Monotone (R : Rule) : Type 0 where
   pub keeps : {d e : List ℕ} (x : ℕ) → d ⊆ e → T (R .may d x) → T (R .may e x)
 
--- The same rule without operation a, which now never may be next. Its runs are the runs that lack a.
+-- The same rule without operation a, which never may be next. Its runs are the runs that lack a.
 abbrev pub without : Rule → ℕ → Rule
 without R a = record { size = R .size; may = λ d x. R .may d x && not (eqb x a) }

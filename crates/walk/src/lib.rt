@@ -165,7 +165,7 @@ pub fn walk_from(
     w
 }
 
-// The lowest operation that is not done; n where all are.
+// The lowest of the workers' next operations; n where none has one left.
 pub fn lowest_left(
     file: &[u8],
     p: usize,

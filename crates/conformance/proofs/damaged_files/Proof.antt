@@ -16,6 +16,12 @@ loop-holds c = search needs
 next-requires : tie.Need-next-requires Inv-loop μ-loop
 next-requires c κs = search needs
 
+add-next : tie.Need-add-next Inv-loop μ-loop
+add-next c = search needs
+
+next-requires-2 : tie.Need-next-requires-2 Inv-loop μ-loop
+next-requires-2 c κs = search needs
+
 damaged-case-requires : tie.Need-damaged-case-requires Inv-loop μ-loop
 damaged-case-requires c κs = search needs
 
@@ -39,6 +45,8 @@ damaged-files-spec =
     μ-loop
     loop-holds
     next-requires
+    add-next
+    next-requires-2
     damaged-case-requires
     add-i
     loop-less

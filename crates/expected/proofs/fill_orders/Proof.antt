@@ -13,8 +13,8 @@ abbrev μ-loop : tie.MeasureT-loop
 loop-holds : tie.Need-loop-holds Inv-loop μ-loop
 loop-holds c = search needs
 
-is-certain-before-requires : tie.Need-is-certain-before-requires Inv-loop μ-loop
-is-certain-before-requires c κs = search needs
+must-precede-requires : tie.Need-must-precede-requires Inv-loop μ-loop
+must-precede-requires c κs = search needs
 
 mul-orders : tie.Need-mul-orders Inv-loop μ-loop
 mul-orders c = search needs
@@ -22,8 +22,8 @@ mul-orders c = search needs
 element-write-orders : tie.Need-element-write-orders Inv-loop μ-loop
 element-write-orders c = search needs
 
-is-certain-before-requires-2 : tie.Need-is-certain-before-requires-2 Inv-loop μ-loop
-is-certain-before-requires-2 c κs = search needs
+must-precede-requires-2 : tie.Need-must-precede-requires-2 Inv-loop μ-loop
+must-precede-requires-2 c κs = search needs
 
 mul-orders-2 : tie.Need-mul-orders-2 Inv-loop μ-loop
 mul-orders-2 c = search needs
@@ -50,10 +50,10 @@ fill-orders-spec =
     Inv-loop
     μ-loop
     loop-holds
-    is-certain-before-requires
+    must-precede-requires
     mul-orders
     element-write-orders
-    is-certain-before-requires-2
+    must-precede-requires-2
     mul-orders-2
     element-write-orders-2
     add-i

@@ -1,7 +1,6 @@
 -- `step_after` meets its contract: by the sign of the answer, and by the error.
 -- Assumes nothing.
 use mathlib.Core.Path.{sym, ap, _∙_}
-use lib.ListN.{length}
 use borrow.Author.Needs.{needs}
 use Rattle.streams.proofs.Steps.{step-interrupted, step-failed, step-ended, step-moved}
 use Rattle.streams.proofs.Steps.{step-told, more-counted}

@@ -5,31 +5,37 @@ use Rattle.typed_cases.proofs.has_numbers.Statement.{statement}
 use Rattle.typed_cases.proofs.has_numbers.Tie as tie
 
 abbrev Inv-loop : tie.InvT-loop
-Inv-loop list due i₀ i-end i = Unit {0}
+Inv-loop list line i₀ i = Unit {0}
 
 abbrev μ-loop : tie.MeasureT-loop
-μ-loop list due i₀ i-end i = i-end - i
+μ-loop list line i₀ i = 23 - i
 
 loop-holds : tie.Need-loop-holds Inv-loop μ-loop
 loop-holds c = search needs
 
-sub-at : tie.Need-sub-at Inv-loop μ-loop
-sub-at c = search needs
+element-copy-out-at : tie.Need-element-copy-out-at Inv-loop μ-loop
+element-copy-out-at c = search needs
 
-at-requires : tie.Need-at-requires Inv-loop μ-loop
-at-requires c κs = search needs
+cast-at : tie.Need-cast-at Inv-loop μ-loop
+cast-at c = search needs
 
-cast-number-at : tie.Need-cast-number-at Inv-loop μ-loop
-cast-number-at c = search needs
+add-at : tie.Need-add-at Inv-loop μ-loop
+add-at c = search needs
+
+add-if1 : tie.Need-add-if1 Inv-loop μ-loop
+add-if1 c = search needs
 
 number-at-requires : tie.Need-number-at-requires Inv-loop μ-loop
 number-at-requires c κs = search needs
 
+add-if2 : tie.Need-add-if2 Inv-loop μ-loop
+add-if2 c = search needs
+
 mul-if2 : tie.Need-mul-if2 Inv-loop μ-loop
 mul-if2 c = search needs
 
-shared-slice-read-if2 : tie.Need-shared-slice-read-if2 Inv-loop μ-loop
-shared-slice-read-if2 c = search needs
+element-copy-out-if2 : tie.Need-element-copy-out-if2 Inv-loop μ-loop
+element-copy-out-if2 c = search needs
 
 returns : tie.Need-returns Inv-loop μ-loop
 returns c = search needs
@@ -53,12 +59,14 @@ has-numbers-spec =
     Inv-loop
     μ-loop
     loop-holds
-    sub-at
-    at-requires
-    cast-number-at
+    element-copy-out-at
+    cast-at
+    add-at
+    add-if1
     number-at-requires
+    add-if2
     mul-if2
-    shared-slice-read-if2
+    element-copy-out-if2
     returns
     add-i
     loop-less

@@ -1,28 +1,22 @@
--- `tidy_file` is safe and ends. Assumes nothing.
+-- `fill_bytes` is safe and ends. Assumes nothing.
 use Prim.Native.Nat.{_-_}
 use borrow.Author.Needs.{needs}
 use mathlib.Core.Path.{_≡_}
 use lib.ListN.{length}
-use Rattle.small_file.proofs.tidy_file.Statement.{statement}
-use Rattle.small_file.proofs.tidy_file.Tie as tie
+use Rattle.typed_cases.proofs.fill_bytes.Statement.{statement}
+use Rattle.typed_cases.proofs.fill_bytes.Tie as tie
 
 abbrev Inv-loop : tie.InvT-loop
-Inv-loop file tidy₀ t i₀ i-end tidy i = length tidy ≡ length tidy₀
+Inv-loop memory₀ i₀ i-end memory i = length memory ≡ length memory₀
 
 abbrev μ-loop : tie.MeasureT-loop
-μ-loop file tidy₀ t i₀ i-end tidy i = i-end - i
-
-small-trace-requires : tie.Need-small-trace-requires Inv-loop μ-loop
-small-trace-requires c κs = search needs
+μ-loop memory₀ i₀ i-end memory i = i-end - i
 
 loop-holds : tie.Need-loop-holds Inv-loop μ-loop
 loop-holds c = search needs
 
-tidy-byte-requires : tie.Need-tidy-byte-requires Inv-loop μ-loop
-tidy-byte-requires c κs = search needs
-
-slice-write-tidy : tie.Need-slice-write-tidy Inv-loop μ-loop
-slice-write-tidy c = search needs
+slice-write-memory : tie.Need-slice-write-memory Inv-loop μ-loop
+slice-write-memory c = search needs
 
 add-i : tie.Need-add-i Inv-loop μ-loop
 add-i c = search needs
@@ -39,16 +33,14 @@ same-length c = search needs
 returns : tie.Need-returns Inv-loop μ-loop
 returns c = search needs
 
-pub tidy-file-spec : {M : Type 1} → statement M
-tidy-file-spec =
+pub fill-bytes-spec : {M : Type 1} → statement M
+fill-bytes-spec =
     tie.close
     (tie.spec
     Inv-loop
     μ-loop
-    small-trace-requires
     loop-holds
-    tidy-byte-requires
-    slice-write-tidy
+    slice-write-memory
     add-i
     loop-less
     loop-again

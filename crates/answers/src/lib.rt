@@ -1,5 +1,7 @@
-// Each call's answer as a number, a place and values, so that any two can be compared.
+// The calls' answers, but for the race list on records and the report, as a number, a place and values, so that any two
+// can be compared.
 use accept::AcceptAnswer;
+use beginning::Prefix;
 use canonical::CanonicalAnswer;
 use order_table::TableAnswer;
 use pair_order::OrderAnswer;
@@ -7,7 +9,7 @@ use races::RacesAnswer;
 use two_runs::RunsAnswer;
 
 // What a call answers: the number 0 and its values, or the number and place of its refusal.
-pub struct Told {
+pub struct Answer {
     pub number: u8,
     pub place: u32,
     pub x: u32,
@@ -15,8 +17,8 @@ pub struct Told {
     pub z: u32,
 }
 
-pub fn refusal(number: u8, place: u32) -> Told {
-    Told {
+pub fn refusal(number: u8, place: u32) -> Answer {
+    Answer {
         number: number,
         place: place,
         x: 0,
@@ -25,8 +27,8 @@ pub fn refusal(number: u8, place: u32) -> Told {
     }
 }
 
-pub fn success(x: u32, y: u32, z: u32) -> Told {
-    Told {
+pub fn success(x: u32, y: u32, z: u32) -> Answer {
+    Answer {
         number: 0,
         place: 0,
         x: x,
@@ -35,11 +37,21 @@ pub fn success(x: u32, y: u32, z: u32) -> Told {
     }
 }
 
-pub fn same(a: Told, b: Told) -> bool {
+pub fn same(a: Answer, b: Answer) -> bool {
     a.number == b.number && a.place == b.place && a.x == b.x && a.y == b.y && a.z == b.z
 }
 
-pub fn told_accept(file: &[u8]) -> Told {
+// Does the memory start with the numbers that are due?
+pub fn starts_with(memory: &[u16], due: &[u16]) -> bool {
+    for i in 0..due.len() {
+        if memory.len() <= i || memory[i] != due[i] {
+            return false;
+        }
+    }
+    true
+}
+
+pub fn accept_answer(file: &[u8]) -> Answer {
     match accept::accept(file) {
         AcceptAnswer::Accepted {
             workers,
@@ -56,7 +68,7 @@ fn lend_table(file: &[u8], table: &mut [u16], size: usize) -> TableAnswer {
     order_table::order_table(file, table)
 }
 
-pub fn told_table(file: &[u8], table: &mut [u16], size: usize) -> Told {
+pub fn table_answer(file: &[u8], table: &mut [u16], size: usize) -> Answer {
     match lend_table(file, table, size) {
         TableAnswer::Filled {
             workers,
@@ -80,7 +92,7 @@ fn unsigned(sign: i8) -> u32 {
     3
 }
 
-pub fn told_order(file: &[u8], a: u32, b: u32) -> Told {
+pub fn order_answer(file: &[u8], a: u32, b: u32) -> Answer {
     match pair_order::pair_order(file, a, b) {
         OrderAnswer::Ordered { sign } => success(unsigned(sign), 0, 0),
         OrderAnswer::Refused { number, place } => refusal(number, place),
@@ -108,7 +120,7 @@ fn lend_runs(
     two_runs::two_runs(file, a, b, first, second)
 }
 
-pub fn told_runs(
+pub fn runs_answer(
     file: &[u8],
     a: u32,
     b: u32,
@@ -116,7 +128,7 @@ pub fn told_runs(
     first_size: usize,
     second: &mut [u16],
     second_size: usize,
-) -> Told {
+) -> Answer {
     match lend_runs(file, a, b, first, first_size, second, second_size) {
         RunsAnswer::Runs { operations } => success(operations, 0, 0),
         RunsAnswer::Refused { number, place } => refusal(number, place),
@@ -143,7 +155,7 @@ fn lend_races(
     races::races(file, table, lower, higher)
 }
 
-pub fn told_races(
+pub fn races_answer(
     file: &[u8],
     table: &mut [u16],
     table_size: usize,
@@ -151,7 +163,7 @@ pub fn told_races(
     lower_size: usize,
     higher: &mut [u16],
     higher_size: usize,
-) -> Told {
+) -> Answer {
     match lend_races(
         file,
         table,
@@ -177,9 +189,17 @@ fn lend_output(file: &[u8], output: &mut [u8], size: usize) -> CanonicalAnswer {
     canonical::canonical(file, output)
 }
 
-pub fn told_canonical(file: &[u8], output: &mut [u8], size: usize) -> Told {
+pub fn canonical_answer(file: &[u8], output: &mut [u8], size: usize) -> Answer {
     match lend_output(file, output, size) {
         CanonicalAnswer::Written { size } => success(size, 0, 0),
         CanonicalAnswer::Refused { number, place } => refusal(number, place),
+    }
+}
+
+// Which list the beginning is a part of, 0 the first and 1 the second, and how many numbers it has.
+pub fn prefix_answer(first: &[u16], second: &[u16], chosen: u32, other: u32) -> Answer {
+    match beginning::which_prefix(first, second, chosen, other) {
+        Prefix::OfFirst { length } => success(0, (length % 65536) as u32, 0),
+        Prefix::OfSecond { length } => success(1, (length % 65536) as u32, 0),
     }
 }

@@ -1,14 +1,14 @@
--- `is_start` is safe and ends. Assumes nothing.
+-- `starts_with` is safe and ends. Assumes nothing.
 use Prim.Native.Nat.{_-_}
 use borrow.Author.Needs.{needs}
-use Rattle.comparison.proofs.is_start.Statement.{statement}
-use Rattle.comparison.proofs.is_start.Tie as tie
+use Rattle.answers.proofs.starts_with.Statement.{statement}
+use Rattle.answers.proofs.starts_with.Tie as tie
 
 abbrev Inv-loop : tie.InvT-loop
-Inv-loop part list length i₀ i-end i = Unit {0}
+Inv-loop memory due i₀ i-end i = Unit {0}
 
 abbrev μ-loop : tie.MeasureT-loop
-μ-loop part list length i₀ i-end i = i-end - i
+μ-loop memory due i₀ i-end i = i-end - i
 
 loop-holds : tie.Need-loop-holds Inv-loop μ-loop
 loop-holds c = search needs
@@ -40,8 +40,8 @@ loop-again c = search needs
 returns-2 : tie.Need-returns-2 Inv-loop μ-loop
 returns-2 c = search needs
 
-pub is-start-spec : {M : Type 1} → statement M
-is-start-spec =
+pub starts-with-spec : {M : Type 1} → statement M
+starts-with-spec =
     tie.close
     (tie.spec
     Inv-loop
