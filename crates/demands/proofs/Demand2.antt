@@ -37,7 +37,7 @@ use Rattle.race_search.specs.RaceList.{raceList, raceCount}
 use Rattle.race_search.proofs.OnlyList.{list-of, list-only}
 use Rattle.races.specs.declared.RacesAnswer.{RacesAnswer}
 use Rattle.races.specs.declared.RacesAnswer.the-variants as races
-use Rattle.races.specs.Races.{records, shorter, PlanCall, RacesCall}
+use Rattle.races.specs.Races.{raceRecords, shorter, PlanCall, RacesCall}
 use Rattle.races.specs.Refusals.{AcceptedRaces}
 use Rattle.races.proofs.Answers.{races-listed, races-short}
 use Rattle.races.proofs.Listed.{lists-hold, lists-past}
@@ -170,7 +170,7 @@ module _ {bytes : List ℕ} {t : Trace} (h : AcceptedTrace bytes t)
   both-listed : AcceptedRaces bytes (length lent) (shorter (length lower) (length higher)) t × (m ≡ raceCount t)
   both-listed = races-listed bytes (length lent) _ h m .0 (sym (c .answers) ∙ a)
 
-  pub races-hold : RaceListOf t (take m (records lower-now higher-now))
+  pub races-hold : RaceListOf t (take m (raceRecords lower-now higher-now))
   races-hold =
       let hold = lists-hold bytes lent lower higher (both-listed .0) in
       rw (c .leaves-lower, c .leaves-higher, both-listed .1, hold) (list-of (accepted-workers h))

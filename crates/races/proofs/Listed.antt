@@ -11,7 +11,7 @@ use Rattle.lent.proofs.Writing.{written-length, written-past}
 use Rattle.race_search.specs.RaceList.{raceList, raceCount}
 use Rattle.race_search.specs.declared.Race.{Race}
 use Rattle.races.specs.Races.{higherAfter}
-use Rattle.races.specs.Races.{racesReading, racesListed, lowers, highers, records, shorter, lowerAfter}
+use Rattle.races.specs.Races.{racesReading, racesListed, lowers, highers, raceRecords, shorter, lowerAfter}
 use Rattle.races.specs.Refusals.{AcceptedRaces}
 use Rattle.races.proofs.Answers.{listed-by, shorter-fits}
 use Rattle.races.proofs.Questions.{races-comes-out}
@@ -37,8 +37,8 @@ module _ (bytes : List ℕ) (numbers room : ℕ) where
 -- ---- what is in the two lists of numbers
 
 -- lists that start with the lower and the higher operations of some races hold these
-records-front : (l : List Race) (xs ys : List ℕ) → take (length l) (records (lowers l ++ xs) (highers l ++ ys)) ≡ l
-unfolding records
+records-front : (l : List Race) (xs ys : List ℕ) → take (length l) (raceRecords (lowers l ++ xs) (highers l ++ ys)) ≡ l
+unfolding raceRecords
 records-front [] xs ys = refl
 records-front (r ∷ l) xs ys = ap (λ (s : List Race). r ∷ s) (records-front l xs ys)
 
@@ -72,7 +72,7 @@ module _ (bytes table lower higher : List ℕ) where
   -- after success
   module _ {t : Trace} (h : AcceptedRaces bytes (length table) room t) where
     pub lists-hold :
-        take (raceCount t) (records (lowerAfter bytes table lower higher) (higherAfter bytes table lower higher))
+        take (raceCount t) (raceRecords (lowerAfter bytes table lower higher) (higherAfter bytes table lower higher))
         ≡ raceList t
     unfolding lowerAfter higherAfter
     lists-hold = rw (listed-all bytes (length table) room h) (records-front (raceList t) _ _)

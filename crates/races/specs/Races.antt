@@ -58,15 +58,15 @@ abbrev pub highers : List Race → List ℕ
 highers l = map (λ r. r .higher) l
 
 -- the race records that two lists hold: each place of both is one
-unfoldable pub records : List ℕ → List ℕ → List Race
-records [] higher = []
-records (a ∷ lower) [] = []
-records (a ∷ lower) (b ∷ higher) = pair a b ∷ records lower higher
+unfoldable pub raceRecords : List ℕ → List ℕ → List Race
+raceRecords [] higher = []
+raceRecords (a ∷ lower) [] = []
+raceRecords (a ∷ lower) (b ∷ higher) = pair a b ∷ raceRecords lower higher
 
 -- two lists of two and three numbers, and the other way round
-pub worked : (records (1 ∷ 2 ∷ []) (7 ∷ 8 ∷ 9 ∷ []) ≡ pair 1 7 ∷ pair 2 8 ∷ [])
-    × (records (7 ∷ 8 ∷ 9 ∷ []) (1 ∷ 2 ∷ []) ≡ pair 7 1 ∷ pair 8 2 ∷ [])
-unfolding records
+pub worked : (raceRecords (1 ∷ 2 ∷ []) (7 ∷ 8 ∷ 9 ∷ []) ≡ pair 1 7 ∷ pair 2 8 ∷ [])
+    × (raceRecords (7 ∷ 8 ∷ 9 ∷ []) (1 ∷ 2 ∷ []) ≡ pair 7 1 ∷ pair 8 2 ∷ [])
+unfolding raceRecords
 worked = (refl, refl)
 
 -- the shorter of two lengths

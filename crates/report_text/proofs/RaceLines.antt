@@ -8,7 +8,7 @@ use Prim.Native.Nat.{ℕ, zero, suc, _+_, _*_, _<_, _≤_}
 use lib.ListN.{length, getD, take, length-append}
 use Rattle.race_search.specs.declared.Race.{Race}
 use Rattle.race_search.specs.RaceList.{pair}
-use Rattle.races.specs.Races.{records}
+use Rattle.races.specs.Races.{raceRecords}
 use Rattle.text.specs.Placed.{Placed}
 use Rattle.text.proofs.Placing.{placed-none, placed-then, placed-length}
 use Rattle.report_text.specs.Premises.{RaceRoom}
@@ -17,9 +17,9 @@ use Rattle.report_text.specs.ReportText.{raceLine, raceLines}
 -- ---- the races that two lists hold
 
 records-more : (i : ℕ) (lower higher : List ℕ) → i < length lower → i < length higher
-    → take (suc i) (records lower higher)
-    ≡ take i (records lower higher) ++ pair (getD lower i 0) (getD higher i 0) ∷ []
-unfolding records
+    → take (suc i) (raceRecords lower higher)
+    ≡ take i (raceRecords lower higher) ++ pair (getD lower i 0) (getD higher i 0) ∷ []
+unfolding raceRecords
 records-more i [] higher l m = absurd (omega (arith, l))
 records-more i (a ∷ lower) [] l m = absurd (omega (arith, m))
 records-more zero (a ∷ lower) (b ∷ higher) l m = refl
@@ -42,7 +42,7 @@ pub record LinesPlaced (old : List ℕ) (at : ℕ) (lower higher : List ℕ) (co
   pub seen : i ≤ count
   pub size : length now ≡ length old
   pub short : end ≤ at + 17 * i
-  pub placed : Placed old at (raceLines (take i (records lower higher))) end now
+  pub placed : Placed old at (raceLines (take i (raceRecords lower higher))) end now
 
 pub lines-none : (old : List ℕ) (at : ℕ) (lower higher : List ℕ) (count : ℕ)
     → LinesPlaced old at lower higher count 0 at old
@@ -70,19 +70,19 @@ module _ {old : List ℕ} {at : ℕ} {lower higher : List ℕ} {count i end : �
       line : List ℕ
       line = raceLine (pair (getD lower i 0) (getD higher i 0))
 
-      more : raceLines (take (i + 1) (records lower higher)) ≡ raceLines (take i (records lower higher)) ++ line
+      more : raceLines (take (i + 1) (raceRecords lower higher)) ≡ raceLines (take i (raceRecords lower higher)) ++ line
       more =
           let in-lower : i < length lower = omega (arith, l, r .lower-holds) in
           let in-higher : i < length higher = omega (arith, l, r .higher-holds) in
           rw (add-one, records-more i lower higher in-lower in-higher)
-          (lines-one (take i (records lower higher)) (pair (getD lower i 0) (getD higher i 0)))
+          (lines-one (take i (raceRecords lower higher)) (pair (getD lower i 0) (getD higher i 0)))
 
-      room : at + length (raceLines (take (i + 1) (records lower higher))) ≤ length old
+      room : at + length (raceLines (take (i + 1) (raceRecords lower higher))) ≤ length old
       room = rw more (simp length-append (omega (arith, l, p .short, p .placed .ends, q .ends, s, r .room)))
 
-      placed : Placed old at (raceLines (take (i + 1) (records lower higher))) next then
+      placed : Placed old at (raceLines (take (i + 1) (raceRecords lower higher))) next then
       placed = rw more (placed-then (p .placed) line (rw more at room) q)
 
   pub lines-all : count ≤ i
-      → Placed old at (raceLines (take count (records lower higher))) end now × (end ≤ at + 17 * count)
+      → Placed old at (raceLines (take count (raceRecords lower higher))) end now × (end ≤ at + 17 * count)
   lines-all l = let same : i ≡ count = omega (arith, l, p .seen) in (rw same at (p .placed), rw same at (p .short))

@@ -10,7 +10,7 @@ use Rattle.trace.specs.Trace.{Trace}
 use Rattle.race_search.specs.RaceList.{raceList, raceCount}
 use Rattle.lent.proofs.Writing.{written-length}
 use Rattle.races.specs.declared.RacesAnswer.{RacesAnswer}
-use Rattle.races.specs.Races.{racesReading, racesAnswer, records, toWrite, shorter, RacesCall}
+use Rattle.races.specs.Races.{racesReading, racesAnswer, raceRecords, toWrite, shorter, RacesCall}
 use Rattle.races.specs.Refusals.{AcceptedRaces}
 use Rattle.races.proofs.Answers.{answer-by}
 use Rattle.races.proofs.Listed.{lists-hold, lists-length}
@@ -31,7 +31,7 @@ pub record Asked (bytes : List ℕ) (answer : RacesAnswer) (lower higher : List 
   pub lower-length : length lower ≡ raceSpace
   pub higher-length : length higher ≡ raceSpace
   pub holds : {t : Trace} → AcceptedRaces bytes tableSpace raceSpace t
-      → take (raceCount t) (records lower higher) ≡ raceList t
+      → take (raceCount t) (raceRecords lower higher) ≡ raceList t
 
 -- it is lent zeros
 pub races-asked : {bytes table-now lower higher : List ℕ} {answer : RacesAnswer}
@@ -82,11 +82,11 @@ module _ {bytes : List ℕ} {answer : RacesAnswer} {lower higher : List ℕ} (a 
           })
 
   -- and its text is the report
-  pub asked-text : answerText answer (records lower higher) ≡ reportText bytes
+  pub asked-text : answerText answer (raceRecords lower higher) ≡ reportText bytes
   asked-text = go (racesReading bytes tableSpace raceSpace) refl
     where
       go : (r : Reading) → racesReading bytes tableSpace raceSpace ≡ r
-          → answerText answer (records lower higher) ≡ reportText bytes
+          → answerText answer (raceRecords lower higher) ≡ reportText bytes
       go (refused q k) e = rw (a .answers, answer-by bytes tableSpace raceSpace e, text-by bytes e)
       go (reads t) e =
           let races-are = a .holds (races-comes-out bytes tableSpace raceSpace .passes t .0 e) in

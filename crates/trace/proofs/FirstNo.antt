@@ -16,7 +16,7 @@ use Rattle.trace.specs.declared.Operation.{Operation}
 use Rattle.trace.specs.Form.{Form, recordSize}
 use Rattle.trace.specs.Questions.{operationIn, headerQuestion, recordQuestion}
 use Rattle.trace.specs.Reading.{refused, reading, readingFrom}
-use Rattle.trace.specs.Refusals.{operationsIn, fileQuestion, RefusedFirst, by-header, by-record}
+use Rattle.trace.specs.Refusals.{operationsIn, recordQuestionAt, RefusedFirst, by-header, by-record}
 use Rattle.trace.proofs.Records.{drop-records}
 
 -- the question that record i is refused by, among the records that the bytes start with; 0 where none refuses it
@@ -142,7 +142,7 @@ module _ (f : Form) (p : ℕ) where
 
 module _ (f : Form) (bytes : List ℕ) (q k : ℕ) where
   same-question : (i : ℕ)
-      → questionAt f (operationIn bytes .worker) [] (drop (recordSize f) bytes) i ≡ fileQuestion f bytes i
+      → questionAt f (operationIn bytes .worker) [] (drop (recordSize f) bytes) i ≡ recordQuestionAt f bytes i
   same-question i = rw (drop-drop (recordSize f * i) (recordSize f) bytes)
 
   refused-forth : reading f bytes ≡ refused q k → RefusedFirst f bytes q k

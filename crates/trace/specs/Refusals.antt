@@ -18,8 +18,8 @@ operationsIn f zero bytes = []
 operationsIn f (suc n) bytes = operationIn bytes ∷ operationsIn f n (drop (recordSize f) bytes)
 
 -- the number of the question that refuses the record of operation k; 0 where none does
-abbrev pub fileQuestion : Form → List ℕ → ℕ → ℕ
-fileQuestion f bytes k =
+abbrev pub recordQuestionAt : Form → List ℕ → ℕ → ℕ
+recordQuestionAt f bytes k =
     recordQuestion f (operationIn bytes .worker) (operationsIn f k (drop (recordSize f) bytes)) (drop (start f k) bytes)
 
 -- question q refuses the header, and the place is 0; or the header passes, so do the records before k, and question q
@@ -27,7 +27,7 @@ fileQuestion f bytes k =
 pub data RefusedFirst (f : Form) (bytes : List ℕ) (q k : ℕ) : Type 0 where
   by-header : headerQuestion f bytes ≡ q → (q ≡ 0 → ⊥) → k ≡ 0 → RefusedFirst f bytes q k
   by-record : headerQuestion f bytes ≡ 0 → k < operationIn bytes .number
-      → ((i : ℕ) → i < k → fileQuestion f bytes i ≡ 0) → fileQuestion f bytes k ≡ q → (q ≡ 0 → ⊥)
+      → ((i : ℕ) → i < k → recordQuestionAt f bytes i ≡ 0) → recordQuestionAt f bytes k ≡ q → (q ≡ 0 → ⊥)
       → RefusedFirst f bytes q k
 
 -- the same of a file; document 01 has one form
