@@ -2,7 +2,7 @@
 ghost use Prim.Native.Nat.{_+_, _*_, _≤_};
 ghost use lib.ListN.{length, take};
 ghost use Rattle.race_search.specs.RaceList.{pair};
-ghost use Rattle.races.specs.Races.{records, toWrite};
+ghost use Rattle.races.specs.Races.{raceRecords, toWrite};
 ghost use Rattle.text.specs.Placed.{Placed};
 ghost use Rattle.report_text.specs.Premises.{RaceRoom, ListingRoom, answerText};
 ghost use Rattle.report_text.specs.ReportText.{raceLine, raceLines, listing};
@@ -39,7 +39,7 @@ fn put_race_lines(
 ) -> usize
     requires { ⌜ RaceRoom (now output) at (now lower) (now higher) count ⌝ }
     ensures { λ r. ⌜ Placed (now (output .entry)) at
-        (raceLines (take count (records (now (lower .entry)) (now (higher .entry))))) r (now (output .exit))
+        (raceLines (take count (raceRecords (now (lower .entry)) (now (higher .entry))))) r (now (output .exit))
         × (r ≤ at + 17 * count) ⌝ }
 {
     let mut end = at;
@@ -62,7 +62,7 @@ fn put_listing(
 ) -> usize
     requires { ⌜ ListingRoom (now output) (now lower) (now higher) count ⌝ }
     ensures { λ r. ⌜ Placed (now (output .entry)) 0
-        (listing workers operations (take count (records (now (lower .entry)) (now (higher .entry)))) count) r
+        (listing workers operations (take count (raceRecords (now (lower .entry)) (now (higher .entry)))) count) r
         (now (output .exit)) ⌝ }
 {
     let first = text::put_pair_line(output, 0, b"ops ", operations, b" workers ", workers as u32);
@@ -74,7 +74,7 @@ fn put_listing(
 fn put_answer(output: &mut [u8], answer: RacesAnswer, lower: &[u16], higher: &[u16]) -> usize
     requires { ⌜ ListingRoom (now output) (now lower) (now higher) (toWrite answer) ⌝ }
     ensures { λ r. ⌜ Placed (now (output .entry)) 0
-        (answerText answer (records (now (lower .entry)) (now (higher .entry)))) r (now (output .exit)) ⌝ }
+        (answerText answer (raceRecords (now (lower .entry)) (now (higher .entry)))) r (now (output .exit)) ⌝ }
 {
     match answer {
         RacesAnswer::Listed {

@@ -3,8 +3,8 @@ use Prim.Native.Nat.{_-_}
 use borrow.Author.Needs.{needs}
 use mathlib.Core.Path.{_≡_}
 use lib.ListN.{length}
-use Rattle.conformance.proofs.fill_list.Statement.{statement}
-use Rattle.conformance.proofs.fill_list.Tie as tie
+use Rattle.random_files.proofs.fill_list.Statement.{statement}
+use Rattle.random_files.proofs.fill_list.Tie as tie
 
 abbrev Inv-loop : tie.InvT-loop
 Inv-loop list₀ seed state₀ i₀ i-end list state i = length list ≡ length list₀

@@ -3,8 +3,8 @@ use Prim.Native.Nat.{_-_}
 use borrow.Author.Needs.{needs}
 use mathlib.Core.Path.{_≡_}
 use lib.ListN.{length}
-use Rattle.conformance.proofs.random_operations.Statement.{statement}
-use Rattle.conformance.proofs.random_operations.Tie as tie
+use Rattle.random_files.proofs.random_operations.Statement.{statement}
+use Rattle.random_files.proofs.random_operations.Tie as tie
 
 abbrev Inv-loop : tie.InvT-loop
 Inv-loop file₀ count workers pool style seed state₀ k₀ file state k = length file ≡ length file₀
