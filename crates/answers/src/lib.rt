@@ -99,6 +99,7 @@ pub fn order_answer(file: &[u8], a: u32, b: u32) -> Answer {
     }
 }
 
+// Lends the first numbers of each buffer; where one has not so many, both whole.
 fn lend_runs(
     file: &[u8],
     a: u32,
@@ -135,6 +136,7 @@ pub fn runs_answer(
     }
 }
 
+// Lends the first numbers of the table and of each list; where one has not so many, all whole.
 fn lend_races(
     file: &[u8],
     table: &mut [u16],

@@ -155,11 +155,12 @@ fn print_seen(seen: &[u64; KINDS]) {
 }
 
 fn typed_of(text: &[u8], length: usize) -> u64 {
-    if text.len() < length {
+    if text.len() <= length {
         return 1;
     }
     let t = typed_cases::typed_cases(&text[0..length]);
-    print_number(b"typed answers ", t.given);
+    print_number(b"typed lines ", t.lines);
+    print_number(b"  answers: ", t.given);
     print_number(b"  mismatches: ", t.mismatches);
     t.mismatches
 }

@@ -26,7 +26,7 @@ fn is_post_for(t: SmallTrace, y: usize, x: usize) -> bool {
     y < t.count && t.kind[y % 8] == 1 && t.number[y % 8] == t.number[x % 8]
 }
 
-// Notes what y is for x: an earlier operation of its worker, a Post of its event.
+// Notes what y is for x, an earlier operation of its worker, a Post of its event; and whether x is a Wait.
 fn with_pair(r: Rules, t: SmallTrace, x: usize, y: usize) -> Rules {
     let mut more = r;
     let earlier = with(r.earlier[x % 8], y);

@@ -1,16 +1,17 @@
 // Cases whose expected answers are typed, as lines of text. A line is a word and numbers; the word's first letter says
-// what to do, and a line that starts with another character is passed over.
+// what to do. A line that starts with '#' is a comment, and one that has not as many numbers as it needs is a mismatch.
 //
 // What is judged by itself:
 //   Header     number; size of the file, the two bytes of the mark, workers, kind, operations, length of the header
-//   Record     number; the two bytes of the mark, workers; worker, kind, number, length of the one record
+//   Record     number; the two bytes of the mark, workers; worker, kind, number, length of a record, which is tried as
+//              the only one, and as the second one behind a Read
 //   Common     first cell and length of a Write, the cell of a Read by another worker; how many races
 //   Beginning  chosen number, other number; which list (0 the first, 1 the second), how many of its numbers
 //
 // The file at hand:
-//   file       workers, operations: the header, and the size that the file is to have
+//   file       workers, operations: the header, the size that the file is to have, and zeros behind the header
 //   op         which operation; worker, kind, number, length
-//   many       how many; the first operation, the step to the next; worker, step, kind, number, step, length
+//   many       how many; the first operation, the step to the next; worker, step modulo 16, kind, number, step, length
 //   byte       where; which
 //   size       how many bytes are lent
 //
@@ -37,27 +38,29 @@ const LIST: usize = 1100;
 
 const OUTPUT: usize = 10300;
 
-// How many typed answers were given, and how many of them were not as typed.
+// How many lines there were, how many typed answers they gave, and how many lines and answers were not as they should
+// be.
 pub struct TypedCount {
+    pub lines: u64,
     pub given: u64,
     pub mismatches: u64,
 }
 
 // Notes a typed answer: whether it is the one that is due.
-fn typed(seen: &mut [u64; 2], answer: Answer, due: Answer) {
+fn typed(seen: &mut [u64; 3], answer: Answer, due: Answer) {
     typed_fact(seen, answers::same(answer, due));
 }
 
-fn typed_fact(seen: &mut [u64; 2], holds: bool) {
+fn typed_fact(seen: &mut [u64; 3], holds: bool) {
     seen[0] = seen[0] % 1000000 + 1;
     if !holds {
         seen[1] = seen[1] % 1000000 + 1;
     }
 }
 
-// The refusal with that number and place, or for the number 0 the values.
+// The refusal with that number and place, or for 0 0 the values.
 fn verdict(number: u32, place: u32, x: u32, y: u32, z: u32) -> Answer {
-    if number == 0 {
+    if number == 0 && place == 0 {
         return answers::success(x, y, z);
     }
     answers::refusal((number % 256) as u8, place)
@@ -77,15 +80,23 @@ fn longer(number: u32, digit: u8) -> u32 {
     ((number as u64 * 10 + digit as u64) % 4294967296) as u32
 }
 
+// One number more; from 25 on, which is more than a line can have, no more are counted.
+fn one_more(count: usize) -> usize {
+    if count < 25 {
+        return count + 1;
+    }
+    25
+}
+
 // The line with one digit more.
 fn with_digit(line: Line, digit: u8) -> Line {
     let mut more = line;
     let count = if line.inside {
-        line.count % 25
+        line.count
     } else {
-        line.count % 24 + 1
+        one_more(line.count)
     };
-    let at = (count % 25 + 23) % 24;
+    let at = (count % 26 + 23) % 24;
     let number = longer(if line.inside { line.number[at] } else { 0 }, digit);
     more.number[at] = number;
     more.count = count;
@@ -129,16 +140,67 @@ fn line_at(text: &[u8], from: usize) -> Line {
     line
 }
 
-// What is judged by itself
+// How many numbers a call's line has: what is lent or passed, number and place, and the values where none refuses.
+fn call_numbers(lent: usize, number: u32, values: usize) -> usize {
+    if number == 0 {
+        return lent % 25 + 2 + values % 25;
+    }
+    lent % 25 + 2
+}
 
-// Reading the first `size` bytes.
-fn reading_case(seen: &mut [u64; 2], bytes: &[u8], size: usize, due: Answer) {
-    if size <= bytes.len() {
-        typed(seen, answers::accept_answer(&bytes[0..size]), due);
+// How many numbers the line has to have; 0 where there is no such line.
+fn numbers_due(line: Line) -> usize {
+    let row = line.number;
+    let word = line.word;
+    match word {
+        b'H' | b'R' => 8,
+        b'C' | b'B' => 4,
+        b'f' | b'b' => 2,
+        b'o' => 5,
+        b'm' => 9,
+        b's' => 1,
+        b'a' => call_numbers(0, row[0], 2),
+        b't' => call_numbers(1, row[1], 2),
+        b'p' => call_numbers(2, row[2], 1),
+        b'r' => call_numbers(4, row[4], 1),
+        b'l' => call_numbers(3, row[3], 3),
+        b'c' => call_numbers(1, row[1], 1),
+        _ => 0,
     }
 }
 
-fn header_case(seen: &mut [u64; 2], row: [u32; 24]) {
+// Has the line as many numbers as it needs? A look at lent memory has at least one behind the place.
+fn is_whole(line: Line) -> bool {
+    let word = line.word;
+    match word {
+        b'e' | b'x' | b'y' | b'w' => 2 <= line.count && line.count <= 24,
+        _ => 0 < line.count && line.count == numbers_due(line),
+    }
+}
+
+// Notes a line, unless it is empty or a comment.
+fn note_line(seen: &mut [u64; 3], line: Line) {
+    if line.word == b'\n' || line.word == b'#' {
+        return;
+    }
+    seen[2] = seen[2] % 1000000 + 1;
+    if !is_whole(line) {
+        seen[1] = seen[1] % 1000000 + 1;
+    }
+}
+
+// What is judged by itself
+
+// Reading the first `size` bytes; where there are fewer, it is a mismatch.
+fn reading_case(seen: &mut [u64; 3], bytes: &[u8], size: usize, due: Answer) {
+    if size <= bytes.len() {
+        typed(seen, answers::accept_answer(&bytes[0..size]), due);
+        return;
+    }
+    typed_fact(seen, false);
+}
+
+fn header_case(seen: &mut [u64; 3], row: [u32; 24]) {
     let size = row[1] as usize;
     let mut file = [0u8; 40];
     test_files::put_record(&mut file, 0, row[4], row[5], row[6], row[7]);
@@ -149,7 +211,7 @@ fn header_case(seen: &mut [u64; 2], row: [u32; 24]) {
 }
 
 // The record as operation 0, or as operation 1 behind a Read.
-fn record_case(seen: &mut [u64; 2], row: [u32; 24], place: u32) {
+fn record_case(seen: &mut [u64; 3], row: [u32; 24], place: u32) {
     let k = place as usize % 2;
     let mut file = [0u8; 30];
     test_files::put_header(&mut file, row[3], place % 2 + 1);
@@ -157,11 +219,12 @@ fn record_case(seen: &mut [u64; 2], row: [u32; 24], place: u32) {
     test_files::put_operation(&mut file, k, row[4], row[5], row[6], row[7]);
     test_files::put_byte(&mut file, k * 10 + 10, row[1]);
     test_files::put_byte(&mut file, k * 10 + 11, row[2]);
-    let due = verdict(row[0], place, row[3], place % 2 + 1, 0);
+    let due_place = if row[0] == 0 { 0 } else { place };
+    let due = verdict(row[0], due_place, row[3], place % 2 + 1, 0);
     reading_case(seen, &file, k * 10 + 20, due);
 }
 
-fn common_case(seen: &mut [u64; 2], row: [u32; 24]) {
+fn common_case(seen: &mut [u64; 3], row: [u32; 24]) {
     let mut file = [0u8; 30];
     let mut table = [9u16; 4];
     let mut lower = [9u16; 1];
@@ -174,7 +237,7 @@ fn common_case(seen: &mut [u64; 2], row: [u32; 24]) {
 }
 
 // The beginning of a list in which a number repeats, or of the second run of A3.
-fn beginning_case(seen: &mut [u64; 2], row: [u32; 24]) {
+fn beginning_case(seen: &mut [u64; 3], row: [u32; 24]) {
     let first: [u16; 5] = [1, 2, 1, 3, 4];
     let second: [u16; 7] = [0, 1, 2, 4, 5, 6, 3];
     let answer = answers::prefix_answer(&first, &second, row[0], row[1]);
@@ -182,7 +245,7 @@ fn beginning_case(seen: &mut [u64; 2], row: [u32; 24]) {
     part_case(seen, &first, &second, row);
 }
 
-fn part_case<'a>(seen: &mut [u64; 2], first: &'a [u16], second: &'a [u16], row: [u32; 24]) {
+fn part_case<'a>(seen: &mut [u64; 3], first: &'a [u16], second: &'a [u16], row: [u32; 24]) {
     let part = beginning::beginning(first, second, row[0], row[1]);
     let list = if row[2] == 0 { first } else { second };
     typed_fact(
@@ -191,7 +254,7 @@ fn part_case<'a>(seen: &mut [u64; 2], first: &'a [u16], second: &'a [u16], row: 
     );
 }
 
-fn judge_row(seen: &mut [u64; 2], line: Line) {
+fn judge_row(seen: &mut [u64; 3], line: Line) {
     let row = line.number;
     let word = line.word;
     match word {
@@ -207,6 +270,12 @@ fn judge_row(seen: &mut [u64; 2], line: Line) {
 }
 
 // The file at hand
+
+fn fill_bytes(memory: &mut [u8], x: u8) {
+    for i in 0..memory.len() {
+        memory[i] = x;
+    }
+}
 
 fn put_many(file: &mut [u8], count: usize, row: [u32; 24]) {
     let mut k = row[1] as usize;
@@ -226,6 +295,7 @@ fn change_file(file: &mut [u8], size: usize, line: Line) -> usize {
     let word = line.word;
     match word {
         b'f' => {
+            fill_bytes(file, 0);
             test_files::put_header(file, row[0], row[1]);
             row[1] as usize % 65536 * 10 + 10
         }
@@ -254,20 +324,14 @@ fn fill(memory: &mut [u16]) {
     }
 }
 
-fn fill_bytes(memory: &mut [u8]) {
-    for i in 0..memory.len() {
-        memory[i] = 9;
-    }
-}
-
-fn table_line(seen: &mut [u64; 2], file: &[u8], table: &mut [u16], row: [u32; 24]) {
+fn table_line(seen: &mut [u64; 3], file: &[u8], table: &mut [u16], row: [u32; 24]) {
     fill(table);
     let answer = answers::table_answer(file, table, row[0] as usize);
     typed(seen, answer, verdict(row[1], row[2], row[3], row[4], 0));
 }
 
 fn runs_line(
-    seen: &mut [u64; 2],
+    seen: &mut [u64; 3],
     file: &[u8],
     first: &mut [u16],
     second: &mut [u16],
@@ -288,7 +352,7 @@ fn runs_line(
 }
 
 fn list_line(
-    seen: &mut [u64; 2],
+    seen: &mut [u64; 3],
     file: &[u8],
     table: &mut [u16],
     first: &mut [u16],
@@ -314,8 +378,8 @@ fn list_line(
     );
 }
 
-fn canonical_line(seen: &mut [u64; 2], file: &[u8], output: &mut [u8], row: [u32; 24]) {
-    fill_bytes(output);
+fn canonical_line(seen: &mut [u64; 3], file: &[u8], output: &mut [u8], row: [u32; 24]) {
+    fill_bytes(output, 9);
     let answer = answers::canonical_answer(file, output, row[0] as usize);
     typed(seen, answer, verdict(row[1], row[2], row[3], 0, 0));
 }
@@ -342,10 +406,17 @@ fn has_numbers(list: &[u16], line: Line) -> bool {
     true
 }
 
+fn byte_number(bytes: &[u8], i: usize) -> u32 {
+    if i < bytes.len() {
+        return byte_at(bytes, i) as u32;
+    }
+    256
+}
+
 fn has_bytes(bytes: &[u8], line: Line) -> bool {
     for i in 0..23 {
         let at = line.number[0] as usize % 65536 + i;
-        if i + 1 < line.count && byte_at(bytes, at) as u32 != line.number[i + 1] {
+        if i + 1 < line.count && byte_number(bytes, at) != line.number[i + 1] {
             return false;
         }
     }
@@ -354,7 +425,7 @@ fn has_bytes(bytes: &[u8], line: Line) -> bool {
 
 // A call on the first `size` bytes, or a look at the memory that was lent.
 fn obey(
-    seen: &mut [u64; 2],
+    seen: &mut [u64; 3],
     bytes: &[u8],
     size: usize,
     table: &mut [u16],
@@ -364,6 +435,7 @@ fn obey(
     line: Line,
 ) {
     if bytes.len() < size {
+        typed_fact(seen, false);
         return;
     }
     let file = &bytes[0..size];
@@ -394,7 +466,7 @@ fn obey(
 
 // Obeys a line; how many bytes of the file are lent then.
 fn line_case(
-    seen: &mut [u64; 2],
+    seen: &mut [u64; 3],
     file: &mut [u8; FILE],
     size: usize,
     table: &mut [u16; TABLE],
@@ -403,6 +475,7 @@ fn line_case(
     output: &mut [u8; OUTPUT],
     line: Line,
 ) -> usize {
+    note_line(seen, line);
     judge_row(seen, line);
     let lent = change_file(file, size, line);
     obey(seen, file, lent, table, first, second, output, line);
@@ -411,7 +484,7 @@ fn line_case(
 
 // The lines of a text, one after the other.
 pub fn typed_cases(text: &[u8]) -> TypedCount {
-    let mut seen = [0u64; 2];
+    let mut seen = [0u64; 3];
     let mut file = [0u8; FILE];
     let mut table = [9u16; TABLE];
     let mut first = [9u16; LIST];
@@ -436,6 +509,7 @@ pub fn typed_cases(text: &[u8]) -> TypedCount {
         }
     }
     TypedCount {
+        lines: seen[2],
         given: seen[0],
         mismatches: seen[1],
     }

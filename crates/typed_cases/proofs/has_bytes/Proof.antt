@@ -25,11 +25,8 @@ add-at c = search needs
 add-if1 : tie.Need-add-if1 Inv-loop μ-loop
 add-if1 c = search needs
 
-byte-at-requires : tie.Need-byte-at-requires Inv-loop μ-loop
-byte-at-requires c κs = search needs
-
-cast-if2 : tie.Need-cast-if2 Inv-loop μ-loop
-cast-if2 c = search needs
+byte-number-requires : tie.Need-byte-number-requires Inv-loop μ-loop
+byte-number-requires c κs = search needs
 
 add-if2 : tie.Need-add-if2 Inv-loop μ-loop
 add-if2 c = search needs
@@ -66,8 +63,7 @@ has-bytes-spec =
     cast-at
     add-at
     add-if1
-    byte-at-requires
-    cast-if2
+    byte-number-requires
     add-if2
     mul-if2
     element-copy-out-if2

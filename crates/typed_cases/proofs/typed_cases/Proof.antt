@@ -36,6 +36,9 @@ array-read-t23 c = search needs
 array-read-t26 : tie.Need-array-read-t26 Inv-loop μ-loop
 array-read-t26 c = search needs
 
+array-read-t29 : tie.Need-array-read-t29 Inv-loop μ-loop
+array-read-t29 c = search needs
+
 returns : tie.Need-returns Inv-loop μ-loop
 returns c = search needs
 
@@ -53,4 +56,5 @@ typed-cases-spec =
     loop-again
     array-read-t23
     array-read-t26
+    array-read-t29
     returns)
