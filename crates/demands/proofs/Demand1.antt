@@ -44,10 +44,10 @@ use Rattle.beginning.proofs.Beginnings.{beginning-returned, prefix-returned, ca
 use Rattle.race_search.specs.declared.Race.{Race}
 use Rattle.races.specs.declared.RacesAnswer.{RacesAnswer}
 use Rattle.races.specs.declared.RacesAnswer.the-variants as races
-use Rattle.races.specs.Races.{racesAnswer, shorter, PlanCall, RacesCall}
+use Rattle.races.specs.Races.{racesAnswer, shorter, CountCall, RacesCall}
 use Rattle.races.specs.Races as race-answers
 use Rattle.races.specs.Refusals.{RefusedRaces}
-use Rattle.races.proofs.Answers.{plan-refused, races-refused, races-listed}
+use Rattle.races.proofs.Answers.{counts-refused, races-refused, races-listed}
 use Rattle.races.proofs.Listed.{lists-length, lists-untouched}
 use Rattle.races.proofs.Questions.{races-comes-out, refused-races-number}
 use Rattle.race_list.specs.Listing.{ListCall}
@@ -168,19 +168,19 @@ module _ {bytes first second first-now second-now : List ℕ} {a b : ℕ} {answe
   runs-lengths = rw (c .leaves-first, c .leaves-second) (after-lengths bytes a b first second)
 
 -- The race list is written to a list of records (`ListCall`) or to two lists of numbers (`RacesCall`), which are one of
--- as many records as the shorter holds numbers. Both calls answer alike, and leave the same in the table (`PlanCall`):
-pub race-list-plans : {bytes lent table-now : List ℕ} {list list-now : List Race} {answer : RacesAnswer}
-    → ListCall bytes lent list answer table-now list-now → PlanCall bytes lent (length list) answer table-now
-race-list-plans c = record { answers = c .answers; leaves-table = c .leaves-table }
+-- as many records as the shorter holds numbers. Both calls answer alike, and leave the same in the table (`CountCall`):
+pub race-list-as-count : {bytes lent table-now : List ℕ} {list list-now : List Race} {answer : RacesAnswer}
+    → ListCall bytes lent list answer table-now list-now → CountCall bytes lent (length list) answer table-now
+race-list-as-count c = record { answers = c .answers; leaves-table = c .leaves-table }
 
-pub races-plans : {bytes lent lower higher table-now lower-now higher-now : List ℕ} {answer : RacesAnswer}
+pub races-as-count : {bytes lent lower higher table-now lower-now higher-now : List ℕ} {answer : RacesAnswer}
     → RacesCall bytes lent lower higher answer table-now lower-now higher-now
-    → PlanCall bytes lent (shorter (length lower) (length higher)) answer table-now
-races-plans c = record { answers = c .answers; leaves-table = c .leaves-table }
+    → CountCall bytes lent (shorter (length lower) (length higher)) answer table-now
+races-as-count c = record { answers = c .answers; leaves-table = c .leaves-table }
 
 -- So, for any such call, with any bytes, any table and a list of any number of records:
 module _ {bytes lent table-now : List ℕ} {room : ℕ} {answer : RacesAnswer}
-    (c : PlanCall bytes lent room answer table-now) where
+    (c : CountCall bytes lent room answer table-now) where
   -- It answers the counts of the accepted trace and the number of its races, where the table holds at least n × p
   -- numbers and the list as many records as there are races, or the refusal by the first "no", and nothing else:
   pub races-answers : (x : RacesAnswer) → (answer ≡ x) ↔ RacesOutcome bytes (length lent) room x
@@ -198,7 +198,7 @@ module _ {bytes lent table-now : List ℕ} {room : ℕ} {answer : RacesAnswer}
 
   -- What the order table refuses, it refuses alike, whatever list it is lent:
   pub races-refuse-table : (q k : ℕ) → tableAnswer bytes lent ≡ table.Refused q k → answer ≡ races.Refused q k
-  races-refuse-table q k i = c .answers ∙ sym (plan-refused bytes lent room refl i .answers)
+  races-refuse-table q k i = c .answers ∙ sym (counts-refused bytes lent room refl i .answers)
 
   -- It leaves the table as a call of the order table does, so that what is said of that holds here too:
   pub races-fill-table : TableCall bytes lent (tableAnswer bytes lent) table-now

@@ -37,7 +37,7 @@ use Rattle.race_search.specs.RaceList.{raceList, raceCount}
 use Rattle.race_search.proofs.OnlyList.{list-of, list-only}
 use Rattle.races.specs.declared.RacesAnswer.{RacesAnswer}
 use Rattle.races.specs.declared.RacesAnswer.the-variants as races
-use Rattle.races.specs.Races.{raceRecords, shorter, PlanCall, RacesCall}
+use Rattle.races.specs.Races.{raceRecords, shorter, CountCall, RacesCall}
 use Rattle.races.specs.Refusals.{AcceptedRaces}
 use Rattle.races.proofs.Answers.{races-listed, races-short}
 use Rattle.races.proofs.Listed.{lists-hold, lists-past}
@@ -122,9 +122,10 @@ module _ {bytes : List ℕ} {t : Trace} (h : AcceptedTrace bytes t) where
   race-list-same p q = list-only (accepted-workers h) p ∙ sym (list-only (accepted-workers h) q)
 
 -- For an accepted file, a lent table that holds at least n × p numbers, and what a call with a list of `room` records
--- answers, in either form of the list (`PlanCall`; demand 1's `race-list-plans`, `races-plans`):
+-- answers, in either form of the list (`CountCall`; demand 1's `race-list-as-count`, `races-as-count`):
 module _ {bytes : List ℕ} {t : Trace} (h : AcceptedTrace bytes t) {lent table-now : List ℕ} {room : ℕ}
-    {answer : RacesAnswer} (l : size t * t .workers ≤ length lent) (c : PlanCall bytes lent room answer table-now) where
+    {answer : RacesAnswer} (l : size t * t .workers ≤ length lent)
+    (c : CountCall bytes lent room answer table-now) where
   filled : AcceptedTable bytes (length lent) t
   filled = record { accepted = h; table-holds = l }
 

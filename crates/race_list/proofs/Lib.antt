@@ -1,4 +1,4 @@
--- RecordWriting: the list with its first races written, and what a plan leaves to be written. LentOpen, LentAgain,
+-- RecordWriting: the list with its first races written, and what is left to be written. LentOpen, LentAgain,
 -- LentShared: means, a slice whose borrow is open, and that is lent again for a call, as `&mut` and as `&`. Lists: what
 -- is in the lent list after the call.
 pub mod RecordWriting

@@ -1,4 +1,4 @@
--- In order: the lent list with its first races written, for the loop; what a plan leaves to be written, for the call.
+-- In order: the lent list with its first races written, for the loop; what is left to be written, for the call.
 use mathlib.Core.List.{List}
 use mathlib.Core.Path.{_≡_, refl, _∙_}
 use native.Mathlib.Omega.{arith}
@@ -13,8 +13,8 @@ use Rattle.race_search.specs.declared.Race.{Race}
 use Rattle.races.specs.declared.RacesAnswer.{RacesAnswer}
 use Rattle.races.specs.Premises.{Writable}
 use Rattle.race_search.specs.RaceList.{raceList, raceCount, raceAt, noRace}
-use Rattle.races.specs.Races.{toWrite, PlanCall}
-use Rattle.races.proofs.Answers.{planned}
+use Rattle.races.specs.Races.{toWrite, CountCall}
+use Rattle.races.proofs.Answers.{left-to-write}
 use Rattle.race_list.specs.Listing.{ListCall}
 
 -- the first i races of a trace are written over a list
@@ -38,17 +38,17 @@ module _ (t : Trace) (old : List Race) where
       written-copy (raceList t) so-far (noRace t) some (omega (arith, so-far .size)) .whole
 
 module _ {bytes table table-now : List ℕ} {answer : RacesAnswer} {n : ℕ} (list : List Race)
-    (plan : PlanCall bytes table (length list) answer table-now) (e : n ≡ toWrite answer) where
-  -- the races that a plan leaves to be written can be written, and there is room for them
-  pub plan-leaves : Writable bytes table-now n × (n ≤ length list)
-  plan-leaves = rw e (planned plan .writable, planned plan .fits)
+    (call : CountCall bytes table (length list) answer table-now) (e : n ≡ toWrite answer) where
+  -- the races that are left to be written can be written, and there is room for them
+  pub call-leaves : Writable bytes table-now n × (n ≤ length list)
+  call-leaves = rw e (left-to-write call .writable, left-to-write call .fits)
 
   -- where they are written, the call keeps its promise
-  pub plan-kept : {list-now : List Race} → list-now ≡ listed (traceOf bytes) list n
+  pub call-kept : {list-now : List Race} → list-now ≡ listed (traceOf bytes) list n
       → ListCall bytes table list answer table-now list-now
-  plan-kept w =
+  call-kept w =
       record {
-        answers = plan .answers;
-        leaves-table = plan .leaves-table;
-        leaves-list = w ∙ rw (e, ← planned plan .listed);
+        answers = call .answers;
+        leaves-table = call .leaves-table;
+        leaves-list = w ∙ rw (e, ← left-to-write call .listed);
       }

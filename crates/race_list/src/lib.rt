@@ -35,7 +35,7 @@ pub fn race_list(file: &[u8], table: &mut [u16], list: &mut [Race]) -> RacesAnsw
         (now (list .exit)) ⌝ }
 {
     let room = list.len();
-    let answer = races::plan(file, table, room);
+    let answer = races::fill_and_count(file, table, room);
     let count = races::to_write(answer);
     write_races(list, file, table, count);
     answer

@@ -26,7 +26,7 @@ use Rattle.race_search.specs.Premises.{HoldsTable}
 use Rattle.race_search.specs.RaceList.{raceList, raceCount}
 use Rattle.race_search.specs.declared.Race.{Race}
 use Rattle.races.specs.Premises.{Writable, BothWritten}
-use Rattle.races.specs.Races.{lowerAfter, higherAfter, PlanCall, RacesCall}
+use Rattle.races.specs.Races.{lowerAfter, higherAfter, CountCall, RacesCall}
 use Rattle.races.specs.Races.{racesReading, answerOf, racesAnswer, listedBy, racesListed, toWrite, shorter}
 use Rattle.races.specs.Refusals.{AcceptedRaces, RefusedRaces}
 use Rattle.races.specs.declared.RacesAnswer.the-variants.{Listed, Refused}
@@ -85,12 +85,13 @@ module _ {bytes table : List ℕ} {p n : ℕ} (h : HoldsTable bytes table) (t : 
       short = by-this (traceOf bytes) filled (omega (arith, e)) refl e
 
 module _ (bytes lent : List ℕ) {now : List ℕ} (room : ℕ) (e : now ≡ tableAfter bytes lent) where
-  pub plan-filled : {answer : RacesAnswer} → answer ≡ racesAnswer bytes (length now) room
-      → PlanCall bytes lent room answer now
-  plan-filled a = record { answers = rw (e, after-length bytes lent) at a; leaves-table = e }
+  pub counts-filled : {answer : RacesAnswer} → answer ≡ racesAnswer bytes (length now) room
+      → CountCall bytes lent room answer now
+  counts-filled a = record { answers = rw (e, after-length bytes lent) at a; leaves-table = e }
 
-  pub plan-refused : {q k : ℕ} → tableAnswer bytes lent ≡ table.Refused q k → PlanCall bytes lent room (Refused q k) now
-  plan-refused {q} {k} a = record { answers = sym (answer-by bytes (length lent) room refusal); leaves-table = e }
+  pub counts-refused : {q k : ℕ} → tableAnswer bytes lent ≡ table.Refused q k
+      → CountCall bytes lent room (Refused q k) now
+  counts-refused {q} {k} a = record { answers = sym (answer-by bytes (length lent) room refusal); leaves-table = e }
     where
       refusal : racesReading bytes (length lent) room ≡ refused q k
       refusal =
@@ -99,21 +100,21 @@ module _ (bytes lent : List ℕ) {now : List ℕ} (room : ℕ) (e : now ≡ tabl
 
 -- ---- the races that an answer lists
 
--- what a plan leaves to be written: it fits, it can be written, and it is the races that the call lists
-pub record Planned (bytes table : List ℕ) (numbers room count : ℕ) : Type 0 where
+-- what is left to be written: it fits, it can be written, and it is the races that the call lists
+pub record LeftToWrite (bytes table : List ℕ) (numbers room count : ℕ) : Type 0 where
   pub writable : Writable bytes table count
   pub fits : count ≤ room
   pub listed : racesListed bytes numbers room ≡ take count (raceList (traceOf bytes))
 
-module _ {bytes lent now : List ℕ} {room : ℕ} {answer : RacesAnswer} (c : PlanCall bytes lent room answer now) where
-  pub plan-length : length now ≡ length lent
-  plan-length = rw (c .leaves-table) (after-length bytes lent)
+module _ {bytes lent now : List ℕ} {room : ℕ} {answer : RacesAnswer} (c : CountCall bytes lent room answer now) where
+  pub counts-length : length now ≡ length lent
+  counts-length = rw (c .leaves-table) (after-length bytes lent)
 
-  pub planned : Planned bytes now (length lent) room (toWrite answer)
-  planned = go (racesReading bytes (length lent) room) refl
+  pub left-to-write : LeftToWrite bytes now (length lent) room (toWrite answer)
+  left-to-write = go (racesReading bytes (length lent) room) refl
     where
       go : (r : Reading) → racesReading bytes (length lent) room ≡ r
-          → Planned bytes now (length lent) room (toWrite answer)
+          → LeftToWrite bytes now (length lent) room (toWrite answer)
       go (refused q k) e =
           rw (c .answers, answer-by bytes (length lent) room e)
           (record {
@@ -149,15 +150,15 @@ take-map f (suc n) [] = refl
 take-map {B = B} f (suc n) (x ∷ l) = ap (λ (r : List B). f x ∷ r) (take-map f n l)
 
 module _ (lower higher : List ℕ) {bytes lent now : List ℕ} {room : ℕ} {answer : RacesAnswer}
-    (i : room ≡ shorter (length lower) (length higher)) (c : PlanCall bytes lent room answer now) where
+    (i : room ≡ shorter (length lower) (length higher)) (c : CountCall bytes lent room answer now) where
   pub pairs-writable : {count : ℕ} → count ≡ toWrite answer
       → Writable bytes now count × (count ≤ length lower) × (count ≤ length higher)
   pairs-writable e =
       let short = shorter-fits (length lower) (length higher) in
       rw e (
-        planned c .writable,
-        omega (arith, planned c .fits, i, short .0),
-        omega (arith, planned c .fits, i, short .1),
+        left-to-write c .writable,
+        omega (arith, left-to-write c .fits, i, short .0),
+        omega (arith, left-to-write c .fits, i, short .1),
       )
 
   pub call-races : {count : ℕ} {lower-now higher-now : List ℕ} → count ≡ toWrite answer
@@ -176,7 +177,7 @@ module _ (lower higher : List ℕ) {bytes lent now : List ℕ} {room : ℕ} {ans
       races = raceList (traceOf bytes)
 
       listed : racesListed bytes (length lent) (shorter (length lower) (length higher)) ≡ take count races
-      listed = rw (← i, e) (planned c .listed)
+      listed = rw (← i, e) (left-to-write c .listed)
 
 -- ---- what the answer says
 

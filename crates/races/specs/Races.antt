@@ -75,7 +75,7 @@ shorter x y = cond (leb x y) x y
 
 -- the asking and the filling, for any bytes, any table and any room: the answer, and what is in the table afterwards;
 -- "Refused calls write nothing, except that 16 leaves the table filled"
-pub record PlanCall (bytes table : List ℕ) (room : ℕ) (answer : RacesAnswer) (table-now : List ℕ) : Type 0 where
+pub record CountCall (bytes table : List ℕ) (room : ℕ) (answer : RacesAnswer) (table-now : List ℕ) : Type 0 where
   pub answers : answer ≡ racesAnswer bytes (length table) room
   pub leaves-table : table-now ≡ tableAfter bytes table
 

@@ -7,7 +7,7 @@ ghost use Rattle.trace.specs.Reading.{traceOf};
 ghost use Rattle.race_search.specs.Premises.{HoldsTable};
 ghost use Rattle.race_search.specs.RaceList.{raceCount};
 ghost use Rattle.races.specs.Premises.{Writable, BothWritten};
-ghost use Rattle.races.specs.Races.{shorter, racesAnswer, toWrite, PlanCall, RacesCall};
+ghost use Rattle.races.specs.Races.{shorter, racesAnswer, toWrite, CountCall, RacesCall};
 use order_table::TableAnswer;
 use race_search::Race;
 
@@ -44,7 +44,7 @@ fn count_races(file: &[u8], table: &[u16]) -> u32
 }
 
 // Question 16 of a file whose table is filled, where the list holds `room` records.
-fn plan_if_room(
+fn count_if_room(
     file: &[u8],
     workers: u8,
     operations: u32,
@@ -69,14 +69,14 @@ fn plan_if_room(
 }
 
 // Questions 1 to 11 and 16, where the list holds `room` records; the table is filled where 1 to 11 do not refuse.
-pub fn plan(file: &[u8], table: &mut [u16], room: usize) -> RacesAnswer
-    ensures { λ r. ⌜ PlanCall (now (file .entry)) (now (table .entry)) room r (now (table .exit)) ⌝ }
+pub fn fill_and_count(file: &[u8], table: &mut [u16], room: usize) -> RacesAnswer
+    ensures { λ r. ⌜ CountCall (now (file .entry)) (now (table .entry)) room r (now (table .exit)) ⌝ }
 {
     match order_table::order_table(file, table) {
         TableAnswer::Filled {
             workers,
             operations,
-        } => plan_if_room(file, workers, operations, table, room),
+        } => count_if_room(file, workers, operations, table, room),
         TableAnswer::Refused { number, place } => RacesAnswer::Refused {
             number: number,
             place: place,
@@ -139,7 +139,7 @@ pub fn races(file: &[u8], table: &mut [u16], lower: &mut [u16], higher: &mut [u1
         (now (table .exit)) (now (lower .exit)) (now (higher .exit)) ⌝ }
 {
     let room = shorter_of(lower.len(), higher.len());
-    let answer = plan(file, table, room);
+    let answer = fill_and_count(file, table, room);
     let count = to_write(answer);
     write_pairs(file, table, count, lower, higher);
     answer

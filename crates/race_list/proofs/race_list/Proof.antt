@@ -1,6 +1,6 @@
--- `race_list::race_list` meets its contract: a walk of its MIR, by hand. The table is lent again to `plan`, and comes
--- back; it is lent as `&` to `write_races`, to which the list goes for good. Of the callees the proof knows only their
--- contracts.
+-- `race_list::race_list` meets its contract: a walk of its MIR, by hand. The table is lent again to `fill_and_count`,
+-- and comes back; it is lent as `&` to `write_races`, to which the list goes for good. Of the callees the proof knows
+-- only their contracts.
 -- Assumes nothing.
 use mathlib.Core.List.{[], _∷_, List}
 use mathlib.Core.Path.{_≡_, refl, ap}
@@ -48,20 +48,20 @@ use denote.Triple.Walked.{goes-slice, goes-gave-slice, goes-none-slice, Walks, e
 use Rattle.trace.specs.Reading.{traceOf}
 use Rattle.race_search.specs.declared.Race.{Race}
 use Rattle.races.specs.declared.RacesAnswer.{RacesAnswer}
-use Rattle.races.specs.Races.{toWrite, PlanCall}
+use Rattle.races.specs.Races.{toWrite, CountCall}
 use Rattle.race_search.proofs.Race as T
 use Rattle.races.proofs.RacesAnswer as S
 use Rattle.races.proofs.RacesAnswer.Laws as S′
-use Rattle.races.proofs.plan as p
-use Rattle.races.proofs.plan.Symbol as p-def
-use Rattle.races.proofs.plan.Symbol.{name as #plan}
-use Rattle.races.proofs.plan.Met as p-thm
+use Rattle.races.proofs.fill_and_count as p
+use Rattle.races.proofs.fill_and_count.Symbol as p-def
+use Rattle.races.proofs.fill_and_count.Symbol.{name as #fill}
+use Rattle.races.proofs.fill_and_count.Met as p-thm
 use Rattle.races.proofs.to_write as n
 use Rattle.races.proofs.to_write.Symbol as n-def
 use Rattle.races.proofs.to_write.Symbol.{name as #to-write}
 use Rattle.races.proofs.to_write.Met as n-thm
 use Rattle.race_list.proofs.LentAgain.{LentAgain, lends-again, comes-back}
-use Rattle.race_list.proofs.RecordWriting.{listed, plan-leaves, plan-kept}
+use Rattle.race_list.proofs.RecordWriting.{listed, call-leaves, call-kept}
 use Rattle.race_list.proofs.LentShared.{LentShared, lends-shared, shared-back}
 use Rattle.race_list.proofs.write_races as w
 use Rattle.race_list.proofs.write_races.Symbol as w-def
@@ -92,8 +92,8 @@ stayed = (
 )
 
 module _ {M : Type 1} (𝓤 : URA M) (H : Heap 𝓤) (A : Atoms 𝓤) (mem : Memory → SProp 𝓤) (run : Routine → Fun 𝓤) where
-  abbrev Plan : Contract 𝓤
-  Plan = tripleOf 𝓤 H A p.signature (p.spec 𝓤 H A mem run)
+  abbrev Fill : Contract 𝓤
+  Fill = tripleOf 𝓤 H A p.signature (p.spec 𝓤 H A mem run)
 
   abbrev ToWrite : Contract 𝓤
   ToWrite = tripleOf 𝓤 H A n.signature (n.spec 𝓤 H A mem run)
@@ -153,28 +153,28 @@ module _ {M : Type 1} (𝓤 : URA M) (H : Heap 𝓤) (A : Atoms 𝓤) (W : Given
   abbrev ownA : RacesAnswer → Val → Fml
   ownA r u = S.the-row .own r (u ∷ [])
 
-  -- ---- `plan`
+  -- ---- `fill_and_count`
 
   -- what it is passed: the table lent again for ν, under the name δ; and what its triple binds outside
-  abbrev plan-args : GName → Nums × (Nums × (ℕ × Unit {0}))
-  plan-args δ = (file, (x δ t, (length (list .now), tt)))
+  abbrev fill-args : GName → Nums × (Nums × (ℕ × Unit {0}))
+  fill-args δ = (file, (x δ t, (length (list .now), tt)))
 
-  abbrev to-plan : ℕ → GName → Plan 𝓤 H A mem run .Ghost
-  to-plan ν δ = (
+  abbrev to-fill : ℕ → GName → Fill 𝓤 H A mem run .Ghost
+  to-fill ν δ = (
     (
       (κ₁, (ν ∷ [], tt)),
       (q₁, (fullShare, tt)),
       tt,
-      plan-args δ,
+      fill-args δ,
       (vf ∷ [], (vt ∷ [], (vint w64 (length (list .now)) ∷ [], tt))),
     ),
     tt,
   )
 
-  goes-plan : (ν : ℕ) (δ : GName)
+  goes-fill : (ν : ℕ) (δ : GName)
       → ent 𝓤 (⋆ 𝓤 H A (‵ (flft κ₁ q₁) ∷ ‵ (flft (ν ∷ []) fullShare) ∷ ‵ ownF ∷ ‵ (lentT ν δ) ∷ []))
-      (Plan 𝓤 H A mem run .pre (to-plan ν δ))
-  goes-plan ν δ =
+      (Fill 𝓤 H A mem run .pre (to-fill ν δ))
+  goes-fill ν δ =
       qed W (‵ (flft κ₁ q₁) ∷ ‵ (flft (ν ∷ []) fullShare) ∷ ‵ ownF ∷ ‵ (lentT ν δ) ∷ []) ∵ nothing ! $
       move ! (2 ∷ 0 ∷ []) $ join ! $ move ! (1 ∷ 0 ∷ []) $ join ! $
       -- [the tokens; file; table]
@@ -182,11 +182,11 @@ module _ {M : Type 1} (𝓤 : URA M) (H : Heap 𝓤) (A : Atoms 𝓤) (W : Given
       move ! (3 ∷ 0 ∷ []) $ fjoin ! $ move ! (2 ∷ 0 ∷ []) $ fjoin ! $ move ! (1 ∷ 0 ∷ []) $ join ! $ frame ! $ done !
 
   -- what it ensures, at the answer r, and its clause, at the last table t′
-  abbrev Planned : ℕ → GName → RacesAnswer → SProp 𝓤
-  Planned ν δ r = ensured 𝓤 H A p.ended (p.clauses 𝓤 H A mem run) (κ₁, (ν ∷ [], tt)) (plan-args δ) tt r
+  abbrev TableFilled : ℕ → GName → RacesAnswer → SProp 𝓤
+  TableFilled ν δ r = ensured 𝓤 H A p.ended (p.clauses 𝓤 H A mem run) (κ₁, (ν ∷ [], tt)) (fill-args δ) tt r
 
   abbrev Made : RacesAnswer → List ℕ → Type 0
-  Made r t′ = PlanCall (file .now) t (length (list .now)) r t′
+  Made r t′ = CountCall (file .now) t (length (list .now)) r t′
 
   -- ---- `to_write`
 
@@ -230,7 +230,7 @@ module _ {M : Type 1} (𝓤 : URA M) (H : Heap 𝓤) (A : Atoms 𝓤) (W : Given
 
     goes-write : (ν : ℕ) (δ : GName) → ent 𝓤 (⋆ 𝓤 H A (Going ν δ)) (Write 𝓤 H A mem run .pre (to-write ν δ))
     goes-write ν δ =
-        qed W (Going ν δ) ∵ says ! (plan-leaves (list .now) made em) $ nothing ! $
+        qed W (Going ν δ) ∵ says ! (call-leaves (list .now) made em) $ nothing ! $
         move ! (3 ∷ 0 ∷ []) $ join ! $ move ! (2 ∷ 0 ∷ []) $ join ! $ move ! (1 ∷ 0 ∷ []) $ join ! $ frame ! $
         -- [list; file; table]
         nothing ! $ owned ! usize (Is usize) (uint-makes 𝓤 H A W w64) m _ (refl, m-fits) $ fjoin ! $
@@ -255,13 +255,13 @@ module _ {M : Type 1} (𝓤 : URA M) (H : Heap 𝓤) (A : Atoms 𝓤) (W : Given
         suffices ! _
         (ends-at 𝓤 H A f.ended stayed (f.clauses 𝓤 H A mem run) W ((κs, qs, tt, a, at), tt) u r (tt, (t′, (zs, tt)))
         (tt, (l, (k, tt)))) $
-        says ! (plan-kept (list .now) made em filled) $ nothing ! $
+        says ! (call-kept (list .now) made em filled) $ nothing ! $
         move ! (3 ∷ 0 ∷ []) $ join ! $ move ! (2 ∷ 0 ∷ []) $ join ! $ move ! (1 ∷ 0 ∷ []) $ join ! $ frame ! $
         -- [file; table; the last list; the answer]
         nothing ! $ move ! (3 ∷ 0 ∷ []) $ fjoin ! $ move ! (2 ∷ 0 ∷ []) $ fjoin ! $ move ! (1 ∷ 0 ∷ []) $ fjoin ! $
         frame ! $ done !
 
-  module _ (𝓣 : Tables 𝓤 H) (known-plan : Triple 𝓤 (𝓣 .C #plan) (Plan 𝓤 H A mem run))
+  module _ (𝓣 : Tables 𝓤 H) (known-fill : Triple 𝓤 (𝓣 .C #fill) (Fill 𝓤 H A mem run))
       (known-count : Triple 𝓤 (𝓣 .C #to-write) (ToWrite 𝓤 H A mem run))
       (known-write : Triple 𝓤 (𝓣 .C #write-races) (Write 𝓤 H A mem run)) where
     walk : ent 𝓤 (onEntry 𝓤 H A f.signature κs qs a at)
@@ -301,21 +301,21 @@ module _ {M : Type 1} (𝓤 : URA M) (H : Heap 𝓤) (A : Atoms 𝓤) (W : Given
         -- [table lent again; its loan; ν's token; κ₂'s; κ₁'s; list; file; _13 at 7; …]
         move ! (6 ∷ []) $ use1 W (‵ ownF ⊛ ‵ ownF) (shr-slice-copy 𝓤 H A W (named 0) κ₁ u8 .twice file (vf ∷ [])) $
         split ! $ move ! (0 ∷ 2 ∷ []) $ join ! $ move ! (5 ∷ 3 ∷ 0 ∷ []) $
-        use3 W (raw (Plan 𝓤 H A mem run .pre (to-plan ν δ))) (goes-plan ν δ) $
-        -- [what `plan` asks; file; the table's loan; κ₂'s token; list; _13 at 5; …]
-        calls-at ! (fmOf 𝓤 H (W .laws) 𝓣) (Plan 𝓤 H A mem run) known-plan (to-plan ν δ)
+        use3 W (raw (Fill 𝓤 H A mem run .pre (to-fill ν δ))) (goes-fill ν δ) $
+        -- [what `fill_and_count` asks; file; the table's loan; κ₂'s token; list; _13 at 5; …]
+        calls-at ! (fmOf 𝓤 H (W .laws) 𝓣) (Fill 𝓤 H A mem run) known-fill (to-fill ν δ)
         (and-then ! (load ! (from ! (stop !)) (look ! 29 refl))
         (and-then ! (load ! (from ! (stop !)) (look ! 15 refl))
         (and-then ! (load ! (from ! (stop !)) (look ! 23 refl)) (no-more !))))
         (λ u.
         use1 W
         (later (some (λ (r : RacesAnswer).
-        ((‵ (flft κ₁ q₁) ⊛ ‵ (flft (ν ∷ []) fullShare) ⊛ ‵ ftrue) ⊛ ‵ (ownA r u)) ⊛ raw (Planned ν δ r))))
+        ((‵ (flft κ₁ q₁) ⊛ ‵ (flft (ν ∷ []) fullShare) ⊛ ‵ ftrue) ⊛ ‵ (ownA r u)) ⊛ raw (TableFilled ν δ r))))
         (id⊢ 𝓤 _) $
         await ! tt $ pick ! (λ r. split ! $ move ! (1 ∷ []) $
         use1 W
         (some (λ (ts : Unit {0} × (List ℕ × (Unit {0} × Unit {0}))).
-        ‵ (lasts p.ended (κ₁, (ν ∷ [], tt)) (plan-args δ) ts) ⊛ raw (fact 𝓤 (Made r (ts .1 .0)))))
+        ‵ (lasts p.ended (κ₁, (ν ∷ [], tt)) (fill-args δ) ts) ⊛ raw (fact 𝓤 (Made r (ts .1 .0)))))
         (id⊢ 𝓤 _) $
         pick ! (λ ts. split ! $ move ! (1 ∷ []) $ heard ! (Made r (ts .1 .0)) (λ made.
         fsplit ! $ drop ! $ fsplit ! $ move ! (1 ∷ []) $ drop ! $ fsplit ! $ move ! (1 ∷ []) $ feqL ! (λ l.
@@ -422,7 +422,7 @@ module _ {M : Type 1} (𝓤 : URA M) (H : Heap 𝓤) (A : Atoms 𝓤) (W : Given
         by ! (exits r u m em (ts .1 .0) made l (im .1) (ws .0) filled k)))))))))))))))))))))))))))))))))))
 
 module _ {M : Type 1} (𝓤 : URA M) (H : Heap 𝓤) (A : Atoms 𝓤) (W : Given 𝓤 H A) (mem : Memory → SProp 𝓤)
-    (run : Routine → Fun 𝓤) (𝓣 : Tables 𝓤 H) (known-plan : Triple 𝓤 (𝓣 .C #plan) (Plan 𝓤 H A mem run))
+    (run : Routine → Fun 𝓤) (𝓣 : Tables 𝓤 H) (known-fill : Triple 𝓤 (𝓣 .C #fill) (Fill 𝓤 H A mem run))
     (known-count : Triple 𝓤 (𝓣 .C #to-write) (ToWrite 𝓤 H A mem run))
     (known-write : Triple 𝓤 (𝓣 .C #write-races) (Write 𝓤 H A mem run)) where
   race-list-walks : Walks 𝓤 H A f.ended stayed (WpFn 𝓤 H (𝓣 .C) (𝓣 .Λ) code.function) (f.clauses 𝓤 H A mem run)
@@ -436,7 +436,7 @@ module _ {M : Type 1} (𝓤 : URA M) (H : Heap 𝓤) (A : Atoms 𝓤) (W : Given
       (λ κs qs bounds a g are. via 𝓤 _ (fst∗ 𝓤 _ (emp 𝓤))
       (walk 𝓤 H A W mem run (κs .1 .0) (κs .0) (κs .1 .1 .0) (qs .1 .0) (qs .0) (qs .1 .1 .0) (a .1 .0 .ptr .0)
       (a .1 .0 .ptr .1) (a .1 .0 .name) (a .1 .0 .now) (a .0) (a .1 .1 .0) (are .1 .0 .0 .1) (are .0 .0 .1)
-      (are .1 .1 .0 .0 .1) 𝓣 known-plan known-count known-write))
+      (are .1 .1 .0 .0 .1) 𝓣 known-fill known-count known-write))
 
   race-list-meets : Meets 𝓤 H A f.signature (WpFn 𝓤 H (𝓣 .C) (𝓣 .Λ) code.function) (f.spec 𝓤 H A mem run)
   race-list-meets =
@@ -454,7 +454,7 @@ race-list-spec 𝓤 H 𝓜 𝓖 𝓡 =
     (tables 𝓤 H 𝓜 𝓡 code.env .C) (tables 𝓤 H 𝓜 𝓡 code.env .Λ) #race-list code.function (code.unfolded 𝓤 H 𝓜 𝓡)
     (race-list-meets 𝓤 H (𝓖 .A) (givenOf 𝓤 H 𝓜 𝓖) (𝓜 .mem) (𝓡 .run)
     (tablesOf 𝓤 H 𝓜 (tables 𝓤 H 𝓜 𝓡 code.env))
-    (cited 𝓤 H (Plan 𝓤 H (𝓖 .A) (𝓜 .mem) (𝓡 .run)) 𝓜 𝓡 code.env #plan p-def.routine code.calls-races·plan
+    (cited 𝓤 H (Fill 𝓤 H (𝓖 .A) (𝓜 .mem) (𝓡 .run)) 𝓜 𝓡 code.env #fill p-def.routine code.calls-races·fill-and-count
     (p-thm.met 𝓤 H 𝓜 𝓖 𝓡))
     (cited 𝓤 H (ToWrite 𝓤 H (𝓖 .A) (𝓜 .mem) (𝓡 .run)) 𝓜 𝓡 code.env #to-write n-def.routine code.calls-races·to-write
     (n-thm.met 𝓤 H 𝓜 𝓖 𝓡))

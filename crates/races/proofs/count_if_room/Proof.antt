@@ -1,9 +1,9 @@
--- `plan_if_room` meets its contract. Assumes nothing.
+-- `count_if_room` meets its contract. Assumes nothing.
 use native.Mathlib.Omega.{arith}
 use borrow.Author.Needs.{needs}
 use Rattle.races.proofs.Answers.{answer-listed, answer-short}
-use Rattle.races.proofs.plan_if_room.Statement.{statement}
-use Rattle.races.proofs.plan_if_room.Tie as tie
+use Rattle.races.proofs.count_if_room.Statement.{statement}
+use Rattle.races.proofs.count_if_room.Tie as tie
 
 count-races-requires : tie.Need-count-races-requires
 count-races-requires c κs = c .before .before .pre .0
@@ -23,5 +23,5 @@ returns-2 c =
     let c4 = c1 .before .before .before in
     answer-short (c4 .pre .0) (c4 .pre .1) _ (c1 .count-races .ensures) (omega (arith, c .if1 .left))
 
-pub plan-if-room-spec : {M : Type 1} → statement M
-plan-if-room-spec = tie.close (tie.spec count-races-requires cast-if1 returns returns-2)
+pub count-if-room-spec : {M : Type 1} → statement M
+count-if-room-spec = tie.close (tie.spec count-races-requires cast-if1 returns returns-2)
