@@ -1,0 +1,56 @@
+-- The structs of the C interface: which one each answer becomes, and how a C caller reads it.
+-- Follows: document 01, "The questions": "A refusal is the number and a place". The structs are those of src/lib.rt.
+-- Differs: nowhere. Number 0, which is no question's, stands for "not refused"; the values of a refusal, and the place
+-- where there is none, are 0.
+use Prim.Native.Nat.{ℕ}
+use lib.IntN.{pos}
+use Rattle.accept.specs.declared.AcceptAnswer.{AcceptAnswer}
+use Rattle.accept.specs.declared.AcceptAnswer.the-variants as accept
+use Rattle.order_table.specs.declared.TableAnswer.{TableAnswer}
+use Rattle.order_table.specs.declared.TableAnswer.the-variants as table
+use Rattle.pair_order.specs.declared.OrderAnswer.{OrderAnswer}
+use Rattle.pair_order.specs.declared.OrderAnswer.the-variants as order
+use Rattle.two_runs.specs.declared.RunsAnswer.{RunsAnswer}
+use Rattle.two_runs.specs.declared.RunsAnswer.the-variants as runs
+use Rattle.beginning.specs.declared.Prefix.{Prefix}
+use Rattle.beginning.specs.declared.Prefix.the-variants.{OfFirst, OfSecond}
+use Rattle.races.specs.declared.RacesAnswer.{RacesAnswer}
+use Rattle.races.specs.declared.RacesAnswer.the-variants as races
+use Rattle.canonical.specs.declared.CanonicalAnswer.{CanonicalAnswer}
+use Rattle.canonical.specs.declared.CanonicalAnswer.the-variants as canonical
+use Rattle.capi.specs.declared.AcceptResult.{AcceptResult}
+use Rattle.capi.specs.declared.TableResult.{TableResult}
+use Rattle.capi.specs.declared.OrderResult.{OrderResult}
+use Rattle.capi.specs.declared.RunsResult.{RunsResult}
+use Rattle.capi.specs.declared.RacesResult.{RacesResult}
+use Rattle.capi.specs.declared.CanonicalResult.{CanonicalResult}
+use Rattle.capi.specs.declared.BeginningResult.{BeginningResult}
+
+abbrev pub acceptResult : AcceptAnswer → AcceptResult
+acceptResult (accept.Refused q k) = record { number = q; place = k; workers = 0; operations = 0 }
+acceptResult (accept.Accepted p n) = record { number = 0; place = 0; workers = p; operations = n }
+
+abbrev pub tableResult : TableAnswer → TableResult
+tableResult (table.Refused q k) = record { number = q; place = k; workers = 0; operations = 0 }
+tableResult (table.Filled p n) = record { number = 0; place = 0; workers = p; operations = n }
+
+abbrev pub orderResult : OrderAnswer → OrderResult
+orderResult (order.Refused q k) = record { number = q; place = k; sign = pos 0 }
+orderResult (order.Ordered sign) = record { number = 0; place = 0; sign = sign }
+
+abbrev pub runsResult : RunsAnswer → RunsResult
+runsResult (runs.Refused q k) = record { number = q; place = k; operations = 0 }
+runsResult (runs.Runs n) = record { number = 0; place = 0; operations = n }
+
+abbrev pub racesResult : RacesAnswer → RacesResult
+racesResult (races.Refused q k) = record { number = q; place = k; workers = 0; operations = 0; races = 0 }
+racesResult (races.Listed p n m) = record { number = 0; place = 0; workers = p; operations = n; races = m }
+
+abbrev pub canonicalResult : CanonicalAnswer → CanonicalResult
+canonicalResult (canonical.Refused q k) = record { number = q; place = k; size = 0 }
+canonicalResult (canonical.Written size) = record { number = 0; place = 0; size = size }
+
+-- list 0 is the first, list 1 the second
+abbrev pub beginningResult : Prefix → BeginningResult
+beginningResult (OfFirst length) = record { list = 0; length = length }
+beginningResult (OfSecond length) = record { list = 1; length = length }
