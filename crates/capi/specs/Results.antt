@@ -18,13 +18,13 @@ use Rattle.races.specs.declared.RacesAnswer.{RacesAnswer}
 use Rattle.races.specs.declared.RacesAnswer.the-variants as races
 use Rattle.canonical.specs.declared.CanonicalAnswer.{CanonicalAnswer}
 use Rattle.canonical.specs.declared.CanonicalAnswer.the-variants as canonical
-use Rattle.capi.specs.declared.AcceptResult.{AcceptResult}
-use Rattle.capi.specs.declared.TableResult.{TableResult}
-use Rattle.capi.specs.declared.OrderResult.{OrderResult}
-use Rattle.capi.specs.declared.RunsResult.{RunsResult}
-use Rattle.capi.specs.declared.RacesResult.{RacesResult}
-use Rattle.capi.specs.declared.CanonicalResult.{CanonicalResult}
-use Rattle.capi.specs.declared.BeginningResult.{BeginningResult}
+use Rattle.capi.specs.declared.accept_result.AcceptResult.{AcceptResult}
+use Rattle.capi.specs.declared.table_result.TableResult.{TableResult}
+use Rattle.capi.specs.declared.order_result.OrderResult.{OrderResult}
+use Rattle.capi.specs.declared.runs_result.RunsResult.{RunsResult}
+use Rattle.capi.specs.declared.races_result.RacesResult.{RacesResult}
+use Rattle.capi.specs.declared.canonical_result.CanonicalResult.{CanonicalResult}
+use Rattle.capi.specs.declared.beginning_result.BeginningResult.{BeginningResult}
 
 abbrev pub acceptResult : AcceptAnswer → AcceptResult
 acceptResult (accept.Refused q k) = record { number = q; place = k; workers = 0; operations = 0 }

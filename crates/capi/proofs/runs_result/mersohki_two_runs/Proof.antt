@@ -2,8 +2,8 @@
 use mathlib.Core.Path.{ap, sym, _∙_}
 use borrow.Author.Needs.{needs}
 use Rattle.capi.specs.Results.{runsResult}
-use Rattle.capi.proofs.mersohki_two_runs.Statement.{statement}
-use Rattle.capi.proofs.mersohki_two_runs.Tie as tie
+use Rattle.capi.proofs.runs_result.mersohki_two_runs.Statement.{statement}
+use Rattle.capi.proofs.runs_result.mersohki_two_runs.Tie as tie
 
 two-runs-requires : tie.Need-two-runs-requires
 two-runs-requires c κs = search needs
@@ -13,9 +13,6 @@ enum-known-operations c = search needs
 
 enum-known-number : tie.Need-enum-known-number
 enum-known-number c = search needs
-
-cast-t15 : tie.Need-cast-t15
-cast-t15 c = search needs
 
 same-length : tie.Need-same-length
 same-length c = search needs
@@ -48,7 +45,6 @@ mersohki-two-runs-spec =
     two-runs-requires
     enum-known-operations
     enum-known-number
-    cast-t15
     same-length
     same-length-2
     returns

@@ -2,8 +2,8 @@
 use mathlib.Core.Path.{ap, sym, _∙_}
 use borrow.Author.Needs.{needs}
 use Rattle.capi.specs.Results.{canonicalResult}
-use Rattle.capi.proofs.mersohki_canonical.Statement.{statement}
-use Rattle.capi.proofs.mersohki_canonical.Tie as tie
+use Rattle.capi.proofs.canonical_result.mersohki_canonical.Statement.{statement}
+use Rattle.capi.proofs.canonical_result.mersohki_canonical.Tie as tie
 
 canonical-requires : tie.Need-canonical-requires
 canonical-requires c κs = search needs
@@ -14,9 +14,6 @@ enum-known-size c = search needs
 enum-known-number : tie.Need-enum-known-number
 enum-known-number c = search needs
 
-cast-t10 : tie.Need-cast-t10
-cast-t10 c = search needs
-
 same-length : tie.Need-same-length
 same-length c = search needs
 
@@ -24,7 +21,7 @@ returns : tie.Need-returns
 returns c =
     let call = c .before .before .before .before .before .canonical .ensures in
     let result = sym (ap canonicalResult (sym (call .answers) ∙ c .before .size .given .1)) in
-    (result, call .leaves)
+    (result, (call .leaves, call .byte-elements))
 
 same-length-2 : tie.Need-same-length-2
 same-length-2 c = search needs
@@ -33,7 +30,7 @@ returns-2 : tie.Need-returns-2
 returns-2 c =
     let call = c .before .before .before .before .before .canonical .ensures in
     let result = sym (ap canonicalResult (sym (call .answers) ∙ c .before .number .given .1)) in
-    (result, call .leaves)
+    (result, (call .leaves, call .byte-elements))
 
 pub mersohki-canonical-spec : {M : Type 1} → statement M
 mersohki-canonical-spec =
@@ -42,7 +39,6 @@ mersohki-canonical-spec =
     canonical-requires
     enum-known-size
     enum-known-number
-    cast-t10
     same-length
     returns
     same-length-2

@@ -2,8 +2,8 @@
 use mathlib.Core.Path.{ap, sym, _∙_}
 use borrow.Author.Needs.{needs}
 use Rattle.capi.specs.Results.{racesResult}
-use Rattle.capi.proofs.mersohki_races.Statement.{statement}
-use Rattle.capi.proofs.mersohki_races.Tie as tie
+use Rattle.capi.proofs.races_result.mersohki_races.Statement.{statement}
+use Rattle.capi.proofs.races_result.mersohki_races.Tie as tie
 
 races-requires : tie.Need-races-requires
 races-requires c κs = search needs
@@ -11,14 +11,8 @@ races-requires c κs = search needs
 enum-known-workers : tie.Need-enum-known-workers
 enum-known-workers c = search needs
 
-cast-t18 : tie.Need-cast-t18
-cast-t18 c = search needs
-
 enum-known-number : tie.Need-enum-known-number
 enum-known-number c = search needs
-
-cast-t19 : tie.Need-cast-t19
-cast-t19 c = search needs
 
 same-length : tie.Need-same-length
 same-length c = search needs
@@ -56,9 +50,7 @@ mersohki-races-spec =
     (tie.spec
     races-requires
     enum-known-workers
-    cast-t18
     enum-known-number
-    cast-t19
     same-length
     same-length-2
     same-length-3

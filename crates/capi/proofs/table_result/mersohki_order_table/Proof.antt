@@ -2,8 +2,8 @@
 use mathlib.Core.Path.{ap, sym, _∙_}
 use borrow.Author.Needs.{needs}
 use Rattle.capi.specs.Results.{tableResult}
-use Rattle.capi.proofs.mersohki_order_table.Statement.{statement}
-use Rattle.capi.proofs.mersohki_order_table.Tie as tie
+use Rattle.capi.proofs.table_result.mersohki_order_table.Statement.{statement}
+use Rattle.capi.proofs.table_result.mersohki_order_table.Tie as tie
 
 order-table-requires : tie.Need-order-table-requires
 order-table-requires c κs = search needs
@@ -11,14 +11,8 @@ order-table-requires c κs = search needs
 enum-known-workers : tie.Need-enum-known-workers
 enum-known-workers c = search needs
 
-cast-t11 : tie.Need-cast-t11
-cast-t11 c = search needs
-
 enum-known-number : tie.Need-enum-known-number
 enum-known-number c = search needs
-
-cast-t12 : tie.Need-cast-t12
-cast-t12 c = search needs
 
 same-length : tie.Need-same-length
 same-length c = search needs
@@ -44,9 +38,7 @@ mersohki-order-table-spec =
     (tie.spec
     order-table-requires
     enum-known-workers
-    cast-t11
     enum-known-number
-    cast-t12
     same-length
     returns
     same-length-2

@@ -2,8 +2,8 @@
 use mathlib.Core.Path.{ap, sym, _∙_}
 use borrow.Author.Needs.{needs}
 use Rattle.capi.specs.Results.{acceptResult}
-use Rattle.capi.proofs.mersohki_accept.Statement.{statement}
-use Rattle.capi.proofs.mersohki_accept.Tie as tie
+use Rattle.capi.proofs.accept_result.mersohki_accept.Statement.{statement}
+use Rattle.capi.proofs.accept_result.mersohki_accept.Tie as tie
 
 accept-requires : tie.Need-accept-requires
 accept-requires c κs = search needs
@@ -11,14 +11,8 @@ accept-requires c κs = search needs
 enum-known-workers : tie.Need-enum-known-workers
 enum-known-workers c = search needs
 
-cast-t8 : tie.Need-cast-t8
-cast-t8 c = search needs
-
 enum-known-number : tie.Need-enum-known-number
 enum-known-number c = search needs
-
-cast-t9 : tie.Need-cast-t9
-cast-t9 c = search needs
 
 returns : tie.Need-returns
 returns c =
@@ -34,8 +28,6 @@ mersohki-accept-spec =
     (tie.spec
     accept-requires
     enum-known-workers
-    cast-t8
     enum-known-number
-    cast-t9
     returns
     returns-2)

@@ -2,8 +2,8 @@
 use mathlib.Core.Path.{ap, sym, _∙_}
 use borrow.Author.Needs.{needs}
 use Rattle.capi.specs.Results.{beginningResult}
-use Rattle.capi.proofs.mersohki_beginning.Statement.{statement}
-use Rattle.capi.proofs.mersohki_beginning.Tie as tie
+use Rattle.capi.proofs.beginning_result.mersohki_beginning.Statement.{statement}
+use Rattle.capi.proofs.beginning_result.mersohki_beginning.Tie as tie
 
 which-prefix-requires : tie.Need-which-prefix-requires
 which-prefix-requires c κs = search needs

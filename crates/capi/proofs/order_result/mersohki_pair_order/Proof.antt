@@ -6,8 +6,8 @@ use mir.Facts.{toZ-ofZ}
 use borrow.Author.Needs.{needs, sfits-of}
 use Rattle.pair_order.specs.declared.OrderAnswer.the-variants.{Ordered}
 use Rattle.capi.specs.Results.{orderResult}
-use Rattle.capi.proofs.mersohki_pair_order.Statement.{statement}
-use Rattle.capi.proofs.mersohki_pair_order.Tie as tie
+use Rattle.capi.proofs.order_result.mersohki_pair_order.Statement.{statement}
+use Rattle.capi.proofs.order_result.mersohki_pair_order.Tie as tie
 
 pair-order-requires : tie.Need-pair-order-requires
 pair-order-requires c κs = search needs
@@ -17,9 +17,6 @@ enum-known-sign c = search needs
 
 enum-known-number : tie.Need-enum-known-number
 enum-known-number c = search needs
-
-cast-t9 : tie.Need-cast-t9
-cast-t9 c = search needs
 
 returns : tie.Need-returns
 returns c =
@@ -34,4 +31,4 @@ returns-2 c =
 pub mersohki-pair-order-spec : {M : Type 1} → statement M
 mersohki-pair-order-spec =
     tie.close
-    (tie.spec pair-order-requires enum-known-sign enum-known-number cast-t9 returns returns-2)
+    (tie.spec pair-order-requires enum-known-sign enum-known-number returns returns-2)

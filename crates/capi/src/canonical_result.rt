@@ -1,0 +1,34 @@
+// The tidy file, for C.
+ghost use mathlib.Core.Path.{_≡_};
+ghost use Rattle.trace.specs.Writing.{Bytes};
+ghost use Rattle.canonical.specs.CanonicalFile.{canonicalAnswer, outputAfter};
+ghost use Rattle.capi.specs.Results.{canonicalResult};
+use canonical::CanonicalAnswer;
+
+#[repr(C)]
+pub struct CanonicalResult {
+    pub number: u8,
+    pub place: u32,
+    pub size: u32,
+}
+
+// Questions 1 to 10 and 17 of any bytes and any output; where none refuses, the tidy file.
+#[no_mangle]
+pub extern "C" fn mersohki_canonical(file: &[u8], output: &mut [u8]) -> CanonicalResult
+    ensures { λ r. ⌜ r ≡ canonicalResult (canonicalAnswer (now (file .entry)) (now (output .entry))) ⌝ }
+    ensures { λ r. ⌜ now (output .exit) ≡ outputAfter (now (file .entry)) (now (output .entry)) ⌝ }
+    ensures { λ r. ⌜ Bytes (now (file .entry)) ⌝ }
+{
+    match canonical::canonical(file, output) {
+        CanonicalAnswer::Written { size } => CanonicalResult {
+            number: 0,
+            place: 0,
+            size: size,
+        },
+        CanonicalAnswer::Refused { number, place } => CanonicalResult {
+            number: number,
+            place: place,
+            size: 0,
+        },
+    }
+}

@@ -1,0 +1,56 @@
+// The race list on two lists of numbers, for C.
+ghost use mathlib.Core.Path.{_≡_};
+ghost use lib.ListN.{length};
+ghost use Rattle.order_table.specs.Table.{tableAfter};
+ghost use Rattle.races.specs.Races.{shorter, racesAnswer, lowerAfter, higherAfter};
+ghost use Rattle.capi.specs.Results.{racesResult};
+use races::RacesAnswer;
+
+#[repr(C)]
+pub struct RacesResult {
+    pub number: u8,
+    pub place: u32,
+    pub workers: u8,
+    pub operations: u32,
+    pub races: u32,
+}
+
+// Questions 1 to 11 and 16 of any bytes, any table and any two lists; where none refuses, the races, and the order
+// table; where 16 does, the order table.
+#[no_mangle]
+pub extern "C" fn mersohki_races(
+    file: &[u8],
+    table: &mut [u16],
+    lower: &mut [u16],
+    higher: &mut [u16],
+) -> RacesResult
+    ensures { λ r. ⌜ r
+        ≡ racesResult (racesAnswer (now (file .entry)) (length (now (table .entry)))
+        (shorter (length (now (lower .entry))) (length (now (higher .entry))))) ⌝ }
+    ensures { λ r. ⌜ now (table .exit) ≡ tableAfter (now (file .entry)) (now (table .entry)) ⌝ }
+    ensures { λ r. ⌜ now (lower .exit)
+        ≡ lowerAfter (now (file .entry)) (now (table .entry)) (now (lower .entry)) (now (higher .entry)) ⌝ }
+    ensures { λ r. ⌜ now (higher .exit)
+        ≡ higherAfter (now (file .entry)) (now (table .entry)) (now (lower .entry)) (now (higher .entry)) ⌝ }
+{
+    match races::races(file, table, lower, higher) {
+        RacesAnswer::Listed {
+            workers,
+            operations,
+            races,
+        } => RacesResult {
+            number: 0,
+            place: 0,
+            workers: workers,
+            operations: operations,
+            races: races,
+        },
+        RacesAnswer::Refused { number, place } => RacesResult {
+            number: number,
+            place: place,
+            workers: 0,
+            operations: 0,
+            races: 0,
+        },
+    }
+}
