@@ -1,12 +1,9 @@
-// The calls' answers, but for the race list on records and the report, as a number, a place and values, so that any two
-// can be compared.
-use accept::AcceptAnswer;
-use beginning::Prefix;
-use canonical::CanonicalAnswer;
-use order_table::TableAnswer;
-use pair_order::OrderAnswer;
-use races::RacesAnswer;
-use two_runs::RunsAnswer;
+// The calls' answers through the C interface, which has each call but the race list on records and the report, as a
+// number, a place and values, so that any two can be compared.
+use capi::canonical_result::CanonicalResult;
+use capi::races_result::RacesResult;
+use capi::runs_result::RunsResult;
+use capi::table_result::TableResult;
 
 // What a call answers: the number 0 and its values, or the number and place of its refusal.
 pub struct Answer {
@@ -17,24 +14,22 @@ pub struct Answer {
     pub z: u32,
 }
 
-pub fn refusal(number: u8, place: u32) -> Answer {
+fn told(number: u8, place: u32, x: u32, y: u32, z: u32) -> Answer {
     Answer {
         number: number,
         place: place,
-        x: 0,
-        y: 0,
-        z: 0,
-    }
-}
-
-pub fn success(x: u32, y: u32, z: u32) -> Answer {
-    Answer {
-        number: 0,
-        place: 0,
         x: x,
         y: y,
         z: z,
     }
+}
+
+pub fn refusal(number: u8, place: u32) -> Answer {
+    told(number, place, 0, 0, 0)
+}
+
+pub fn success(x: u32, y: u32, z: u32) -> Answer {
+    told(0, 0, x, y, z)
 }
 
 pub fn same(a: Answer, b: Answer) -> bool {
@@ -52,30 +47,20 @@ pub fn starts_with(memory: &[u16], due: &[u16]) -> bool {
 }
 
 pub fn accept_answer(file: &[u8]) -> Answer {
-    match accept::accept(file) {
-        AcceptAnswer::Accepted {
-            workers,
-            operations,
-        } => success(workers as u32, operations, 0),
-        AcceptAnswer::Refused { number, place } => refusal(number, place),
-    }
+    let r = capi::accept_result::mersohki_accept(file);
+    told(r.number, r.place, r.workers as u32, r.operations, 0)
 }
 
-fn lend_table(file: &[u8], table: &mut [u16], size: usize) -> TableAnswer {
+fn lend_table(file: &[u8], table: &mut [u16], size: usize) -> TableResult {
     if size <= table.len() {
-        return order_table::order_table(file, &mut table[0..size]);
+        return capi::table_result::mersohki_order_table(file, &mut table[0..size]);
     }
-    order_table::order_table(file, table)
+    capi::table_result::mersohki_order_table(file, table)
 }
 
 pub fn table_answer(file: &[u8], table: &mut [u16], size: usize) -> Answer {
-    match lend_table(file, table, size) {
-        TableAnswer::Filled {
-            workers,
-            operations,
-        } => success(workers as u32, operations, 0),
-        TableAnswer::Refused { number, place } => refusal(number, place),
-    }
+    let r = lend_table(file, table, size);
+    told(r.number, r.place, r.workers as u32, r.operations, 0)
 }
 
 // The order as a number without a sign: 1 where it is −1, 2 where it is +1, 0 where it is 0, and 3 for any other.
@@ -93,10 +78,8 @@ fn unsigned(sign: i8) -> u32 {
 }
 
 pub fn order_answer(file: &[u8], a: u32, b: u32) -> Answer {
-    match pair_order::pair_order(file, a, b) {
-        OrderAnswer::Ordered { sign } => success(unsigned(sign), 0, 0),
-        OrderAnswer::Refused { number, place } => refusal(number, place),
-    }
+    let r = capi::order_result::mersohki_pair_order(file, a, b);
+    told(r.number, r.place, unsigned(r.sign), 0, 0)
 }
 
 // Lends the first numbers of each buffer; where one has not so many, both whole.
@@ -108,9 +91,9 @@ fn lend_runs(
     first_size: usize,
     second: &mut [u16],
     second_size: usize,
-) -> RunsAnswer {
+) -> RunsResult {
     if first_size <= first.len() && second_size <= second.len() {
-        return two_runs::two_runs(
+        return capi::runs_result::mersohki_two_runs(
             file,
             a,
             b,
@@ -118,7 +101,7 @@ fn lend_runs(
             &mut second[0..second_size],
         );
     }
-    two_runs::two_runs(file, a, b, first, second)
+    capi::runs_result::mersohki_two_runs(file, a, b, first, second)
 }
 
 pub fn runs_answer(
@@ -130,10 +113,8 @@ pub fn runs_answer(
     second: &mut [u16],
     second_size: usize,
 ) -> Answer {
-    match lend_runs(file, a, b, first, first_size, second, second_size) {
-        RunsAnswer::Runs { operations } => success(operations, 0, 0),
-        RunsAnswer::Refused { number, place } => refusal(number, place),
-    }
+    let r = lend_runs(file, a, b, first, first_size, second, second_size);
+    told(r.number, r.place, r.operations, 0, 0)
 }
 
 // Lends the first numbers of the table and of each list; where one has not so many, all whole.
@@ -145,16 +126,16 @@ fn lend_races(
     lower_size: usize,
     higher: &mut [u16],
     higher_size: usize,
-) -> RacesAnswer {
+) -> RacesResult {
     if table_size <= table.len() && lower_size <= lower.len() && higher_size <= higher.len() {
-        return races::races(
+        return capi::races_result::mersohki_races(
             file,
             &mut table[0..table_size],
             &mut lower[0..lower_size],
             &mut higher[0..higher_size],
         );
     }
-    races::races(file, table, lower, higher)
+    capi::races_result::mersohki_races(file, table, lower, higher)
 }
 
 pub fn races_answer(
@@ -166,7 +147,7 @@ pub fn races_answer(
     higher: &mut [u16],
     higher_size: usize,
 ) -> Answer {
-    match lend_races(
+    let r = lend_races(
         file,
         table,
         table_size,
@@ -174,34 +155,24 @@ pub fn races_answer(
         lower_size,
         higher,
         higher_size,
-    ) {
-        RacesAnswer::Listed {
-            workers,
-            operations,
-            races,
-        } => success(workers as u32, operations, races),
-        RacesAnswer::Refused { number, place } => refusal(number, place),
-    }
+    );
+    told(r.number, r.place, r.workers as u32, r.operations, r.races)
 }
 
-fn lend_output(file: &[u8], output: &mut [u8], size: usize) -> CanonicalAnswer {
+fn lend_output(file: &[u8], output: &mut [u8], size: usize) -> CanonicalResult {
     if size <= output.len() {
-        return canonical::canonical(file, &mut output[0..size]);
+        return capi::canonical_result::mersohki_canonical(file, &mut output[0..size]);
     }
-    canonical::canonical(file, output)
+    capi::canonical_result::mersohki_canonical(file, output)
 }
 
 pub fn canonical_answer(file: &[u8], output: &mut [u8], size: usize) -> Answer {
-    match lend_output(file, output, size) {
-        CanonicalAnswer::Written { size } => success(size, 0, 0),
-        CanonicalAnswer::Refused { number, place } => refusal(number, place),
-    }
+    let r = lend_output(file, output, size);
+    told(r.number, r.place, r.size, 0, 0)
 }
 
 // Which list the beginning is a part of, 0 the first and 1 the second, and how many numbers it has.
 pub fn prefix_answer(first: &[u16], second: &[u16], chosen: u32, other: u32) -> Answer {
-    match beginning::which_prefix(first, second, chosen, other) {
-        Prefix::OfFirst { length } => success(0, (length % 65536) as u32, 0),
-        Prefix::OfSecond { length } => success(1, (length % 65536) as u32, 0),
-    }
+    let r = capi::beginning_result::mersohki_beginning(first, second, chosen, other);
+    success(r.list, (r.length % 65536) as u32, 0)
 }

@@ -1,2 +1,4 @@
--- Results: the struct that a C caller gets for each answer, and how it is read.
+-- Results: the struct that each answer becomes. Reading: how a C caller reads it. Both have to be believed; proofs/ shows
+-- that the one undoes the other.
 pub mod Results
+pub mod Reading

@@ -2,7 +2,7 @@
 -- cite.
 -- Follows: document 01, "Examples". A and B, whose rows, orders, runs and races are starred there, are accepted.
 -- Differs: nowhere. Beside the starred ones, marked *, it has tidy files, reports, refusals by questions 10 to 17, lent
--- memory that just fits, is longer, or is too short, and a worker without operations.
+-- memory that just fits, is longer, or is too short, a worker without operations, and the structs of the C interface.
 use mathlib.Core.List.{List, [], _∷_, _++_}
 use mathlib.Core.Path.{_≡_, refl}
 use Prim.Native.Nat.{ℕ, _*_}
@@ -42,6 +42,8 @@ use Rattle.canonical.specs.declared.CanonicalAnswer.the-variants.{Written}
 use Rattle.canonical.specs.declared.CanonicalAnswer.the-variants as canonical
 use Rattle.canonical.specs.Examples.{interleaved, canonicalFile}
 use Rattle.canonical.specs.CanonicalFile.{byWorker, canonicalBytes, canonicalReading, canonicalAnswer, outputAfter}
+use Rattle.capi.specs.Results.{acceptResult, tableResult, orderResult, runsResult, racesResult, canonicalResult}
+use Rattle.capi.specs.Results.{beginningResult}
 use Rattle.text.specs.Ascii.{ascii}
 use Rattle.text.specs.Decimal.{decimalWithin, decimal}
 use Rattle.text.specs.Lines.{labelled, countLine, pairLine}
@@ -194,6 +196,22 @@ pub starred :
     × (reportText fileC ≡ ascii "refused 10 0\n")
     × (reportText fileE ≡ ascii "ops 0 workers 1\nraces 0\n")
     × (reportText [] ≡ ascii "refused 1 0\n")
+    -- in C: A's counts, and its order of 0 and 3; C's refusal; B's one race, with space for none; A3's beginning
+    × (acceptResult (acceptAnswer fileA) ≡ record { number = 0; place = 0; workers = 3; operations = 7 })
+    × (acceptResult (acceptAnswer fileC) ≡ record { number = 10; place = 0; workers = 0; operations = 0 })
+    × (tableResult (tableAnswer fileA (nines 21)) ≡ record { number = 0; place = 0; workers = 3; operations = 7 })
+    × (tableResult (tableAnswer fileA (nines 20)) ≡ record { number = 11; place = 0; workers = 0; operations = 0 })
+    × (orderResult (orderAnswer fileA 0 3) ≡ record { number = 0; place = 0; sign = negsuc 0 })
+    × (orderResult (orderAnswer fileA 7 0) ≡ record { number = 12; place = 0; sign = pos 0 })
+    × (runsResult (runsAnswer fileA 3 5 (nines 7) (nines 9)) ≡ record { number = 0; place = 0; operations = 7 })
+    × (runsResult (runsAnswer fileA 0 3 [] []) ≡ record { number = 14; place = 0; operations = 0 })
+    × (racesResult (racesAnswer fileB 15 1)
+    ≡ record { number = 0; place = 0; workers = 3; operations = 5; races = 1 })
+    × (racesResult (racesAnswer fileB 15 0)
+    ≡ record { number = 16; place = 1; workers = 0; operations = 0; races = 0 })
+    × (canonicalResult (canonicalAnswer mixed (nines 50)) ≡ record { number = 0; place = 0; size = 50 })
+    × (canonicalResult (canonicalAnswer mixed (nines 49)) ≡ record { number = 17; place = 0; size = 0 })
+    × (beginningResult (prefixOf runWith3First runWith5First 5 3) ≡ record { list = 1; length = 5 })
 unfolding value operationIn marked ranked isHeader workersFit headerQuestion ofWorker isSync isAccess kindKnown
     eventFits cellsFit recordQuestion readingFrom reading fileReading largestRun firstOutside acceptance acceptAnswer
     largestRunWithout row rows tableReading tableAnswer tableAfter mustPrecedeIn pairOrder heldBackRun pairReading
@@ -202,6 +220,19 @@ unfolding value operationIn marked ranked isHeader workersFit headerQuestion ofW
     recordsBytes bytesOf byWorker canonicalBytes canonicalReading canonicalAnswer outputAfter decimalWithin decimal
     labelled countLine pairLine raceLines listing refusal reportText
 starred = (
+  refl,
+  refl,
+  refl,
+  refl,
+  refl,
+  refl,
+  refl,
+  refl,
+  refl,
+  refl,
+  refl,
+  refl,
+  refl,
   refl,
   refl,
   refl,

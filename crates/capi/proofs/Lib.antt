@@ -1,0 +1,2 @@
+-- ReadBack: reading the struct of an answer gives the answer back.
+pub mod ReadBack
