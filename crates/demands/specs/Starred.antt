@@ -196,7 +196,7 @@ pub starred :
     × (reportText fileC ≡ ascii "refused 10 0\n")
     × (reportText fileE ≡ ascii "ops 0 workers 1\nraces 0\n")
     × (reportText [] ≡ ascii "refused 1 0\n")
-    -- in C: A's counts, and its order of 0 and 3; C's refusal; B's one race, with space for none; A3's beginning
+    -- the structs of the C interface: of each call one without a refusal and one with it; of A3's beginning
     × (acceptResult (acceptAnswer fileA) ≡ record { number = 0; place = 0; workers = 3; operations = 7 })
     × (acceptResult (acceptAnswer fileC) ≡ record { number = 10; place = 0; workers = 0; operations = 0 })
     × (tableResult (tableAnswer fileA (nines 21)) ≡ record { number = 0; place = 0; workers = 3; operations = 7 })
