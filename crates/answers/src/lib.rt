@@ -1,5 +1,5 @@
-// The calls' answers through the C interface, which has each call but the race list on records and the report, as a
-// number, a place and values, so that any two can be compared.
+// The answers of the calls that the C interface has, through it, as a number, a place and values, so that any two can
+// be compared.
 use capi::canonical_result::CanonicalResult;
 use capi::races_result::RacesResult;
 use capi::runs_result::RunsResult;
@@ -14,7 +14,7 @@ pub struct Answer {
     pub z: u32,
 }
 
-fn told(number: u8, place: u32, x: u32, y: u32, z: u32) -> Answer {
+fn answer_of(number: u8, place: u32, x: u32, y: u32, z: u32) -> Answer {
     Answer {
         number: number,
         place: place,
@@ -25,11 +25,11 @@ fn told(number: u8, place: u32, x: u32, y: u32, z: u32) -> Answer {
 }
 
 pub fn refusal(number: u8, place: u32) -> Answer {
-    told(number, place, 0, 0, 0)
+    answer_of(number, place, 0, 0, 0)
 }
 
 pub fn success(x: u32, y: u32, z: u32) -> Answer {
-    told(0, 0, x, y, z)
+    answer_of(0, 0, x, y, z)
 }
 
 pub fn same(a: Answer, b: Answer) -> bool {
@@ -48,7 +48,7 @@ pub fn starts_with(memory: &[u16], due: &[u16]) -> bool {
 
 pub fn accept_answer(file: &[u8]) -> Answer {
     let r = capi::accept_result::mersohki_accept(file);
-    told(r.number, r.place, r.workers as u32, r.operations, 0)
+    answer_of(r.number, r.place, r.workers as u32, r.operations, 0)
 }
 
 fn lend_table(file: &[u8], table: &mut [u16], size: usize) -> TableResult {
@@ -60,7 +60,7 @@ fn lend_table(file: &[u8], table: &mut [u16], size: usize) -> TableResult {
 
 pub fn table_answer(file: &[u8], table: &mut [u16], size: usize) -> Answer {
     let r = lend_table(file, table, size);
-    told(r.number, r.place, r.workers as u32, r.operations, 0)
+    answer_of(r.number, r.place, r.workers as u32, r.operations, 0)
 }
 
 // The order as a number without a sign: 1 where it is −1, 2 where it is +1, 0 where it is 0, and 3 for any other.
@@ -79,7 +79,7 @@ fn unsigned(sign: i8) -> u32 {
 
 pub fn order_answer(file: &[u8], a: u32, b: u32) -> Answer {
     let r = capi::order_result::mersohki_pair_order(file, a, b);
-    told(r.number, r.place, unsigned(r.sign), 0, 0)
+    answer_of(r.number, r.place, unsigned(r.sign), 0, 0)
 }
 
 // Lends the first numbers of each buffer; where one has not so many, both whole.
@@ -114,7 +114,7 @@ pub fn runs_answer(
     second_size: usize,
 ) -> Answer {
     let r = lend_runs(file, a, b, first, first_size, second, second_size);
-    told(r.number, r.place, r.operations, 0, 0)
+    answer_of(r.number, r.place, r.operations, 0, 0)
 }
 
 // Lends the first numbers of the table and of each list; where one has not so many, all whole.
@@ -156,7 +156,7 @@ pub fn races_answer(
         higher,
         higher_size,
     );
-    told(r.number, r.place, r.workers as u32, r.operations, r.races)
+    answer_of(r.number, r.place, r.workers as u32, r.operations, r.races)
 }
 
 fn lend_output(file: &[u8], output: &mut [u8], size: usize) -> CanonicalResult {
@@ -168,7 +168,7 @@ fn lend_output(file: &[u8], output: &mut [u8], size: usize) -> CanonicalResult {
 
 pub fn canonical_answer(file: &[u8], output: &mut [u8], size: usize) -> Answer {
     let r = lend_output(file, output, size);
-    told(r.number, r.place, r.size, 0, 0)
+    answer_of(r.number, r.place, r.size, 0, 0)
 }
 
 // Which list the beginning is a part of, 0 the first and 1 the second, and how many numbers it has.

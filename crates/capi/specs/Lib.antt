@@ -1,4 +1,5 @@
--- Results: the struct that each answer becomes. Reading: how a C caller reads it. Both have to be believed; proofs/ shows
--- that the one undoes the other.
+-- Results: the struct that each answer becomes. Functions: what the functions that write promise. Reading: how a C
+-- caller reads a struct. All of it has to be believed; proofs/ shows that reading undoes Results.
 pub mod Results
+pub mod Functions
 pub mod Reading

@@ -30,7 +30,7 @@ abbrev pub ifZero : {A : Type 0} → ℕ → A → A → A
 ifZero zero x y = x
 ifZero (suc q) x y = y
 
--- "number 0 means that the call did not refuse", and then the values are its answer
+-- number 0 means that the call does not refuse; then the values are its answer
 abbrev pub acceptRead : AcceptResult → AcceptAnswer
 acceptRead r = ifZero (r .number) (accept.Accepted (r .workers) (r .operations)) (accept.Refused (r .number) (r .place))
 

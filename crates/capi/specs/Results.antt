@@ -1,8 +1,7 @@
--- The structs of the C interface: which one each answer becomes, and how a C caller reads it.
--- Follows: document 01, "The questions": "A refusal is the number and a place". The structs are those of src/lib.rt.
+-- The structs of the C interface: which one each answer becomes.
+-- Follows: document 01, "The questions": "A refusal is the number and a place". The structs are those of src/.
 -- Differs: nowhere. Number 0, which is no question's, stands for "not refused"; the values of a refusal, and the place
 -- where there is none, are 0.
-use Prim.Native.Nat.{ℕ}
 use lib.IntN.{pos}
 use Rattle.accept.specs.declared.AcceptAnswer.{AcceptAnswer}
 use Rattle.accept.specs.declared.AcceptAnswer.the-variants as accept

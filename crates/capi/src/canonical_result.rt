@@ -1,8 +1,5 @@
 // The tidy file, for C.
-ghost use mathlib.Core.Path.{_≡_};
-ghost use Rattle.trace.specs.Writing.{Bytes};
-ghost use Rattle.canonical.specs.CanonicalFile.{canonicalAnswer, outputAfter};
-ghost use Rattle.capi.specs.Results.{canonicalResult};
+ghost use Rattle.capi.specs.Functions.{CanonicalFunction};
 use canonical::CanonicalAnswer;
 
 #[repr(C)]
@@ -15,9 +12,7 @@ pub struct CanonicalResult {
 // Questions 1 to 10 and 17 of any bytes and any output; where none refuses, the tidy file.
 #[no_mangle]
 pub extern "C" fn mersohki_canonical(file: &[u8], output: &mut [u8]) -> CanonicalResult
-    ensures { λ r. ⌜ r ≡ canonicalResult (canonicalAnswer (now (file .entry)) (now (output .entry))) ⌝ }
-    ensures { λ r. ⌜ now (output .exit) ≡ outputAfter (now (file .entry)) (now (output .entry)) ⌝ }
-    ensures { λ r. ⌜ Bytes (now (file .entry)) ⌝ }
+    ensures { λ r. ⌜ CanonicalFunction (now (file .entry)) (now (output .entry)) r (now (output .exit)) ⌝ }
 {
     match canonical::canonical(file, output) {
         CanonicalAnswer::Written { size } => CanonicalResult {

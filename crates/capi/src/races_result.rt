@@ -1,9 +1,5 @@
 // The race list on two lists of numbers, for C.
-ghost use mathlib.Core.Path.{_≡_};
-ghost use lib.ListN.{length};
-ghost use Rattle.order_table.specs.Table.{tableAfter};
-ghost use Rattle.races.specs.Races.{shorter, racesAnswer, lowerAfter, higherAfter};
-ghost use Rattle.capi.specs.Results.{racesResult};
+ghost use Rattle.capi.specs.Functions.{RacesFunction};
 use races::RacesAnswer;
 
 #[repr(C)]
@@ -24,14 +20,8 @@ pub extern "C" fn mersohki_races(
     lower: &mut [u16],
     higher: &mut [u16],
 ) -> RacesResult
-    ensures { λ r. ⌜ r
-        ≡ racesResult (racesAnswer (now (file .entry)) (length (now (table .entry)))
-        (shorter (length (now (lower .entry))) (length (now (higher .entry))))) ⌝ }
-    ensures { λ r. ⌜ now (table .exit) ≡ tableAfter (now (file .entry)) (now (table .entry)) ⌝ }
-    ensures { λ r. ⌜ now (lower .exit)
-        ≡ lowerAfter (now (file .entry)) (now (table .entry)) (now (lower .entry)) (now (higher .entry)) ⌝ }
-    ensures { λ r. ⌜ now (higher .exit)
-        ≡ higherAfter (now (file .entry)) (now (table .entry)) (now (lower .entry)) (now (higher .entry)) ⌝ }
+    ensures { λ r. ⌜ RacesFunction (now (file .entry)) (now (table .entry)) (now (lower .entry)) (now (higher .entry)) r
+        (now (table .exit)) (now (lower .exit)) (now (higher .exit)) ⌝ }
 {
     match races::races(file, table, lower, higher) {
         RacesAnswer::Listed {

@@ -1,7 +1,5 @@
 // The two runs, for C.
-ghost use mathlib.Core.Path.{_≡_};
-ghost use Rattle.two_runs.specs.Runs.{runsAnswer, firstAfter, secondAfter};
-ghost use Rattle.capi.specs.Results.{runsResult};
+ghost use Rattle.capi.specs.Functions.{RunsFunction};
 use two_runs::RunsAnswer;
 
 #[repr(C)]
@@ -20,12 +18,8 @@ pub extern "C" fn mersohki_two_runs(
     first: &mut [u16],
     second: &mut [u16],
 ) -> RunsResult
-    ensures { λ r. ⌜ r
-        ≡ runsResult (runsAnswer (now (file .entry)) a b (now (first .entry)) (now (second .entry))) ⌝ }
-    ensures { λ r. ⌜ now (first .exit)
-        ≡ firstAfter (now (file .entry)) a b (now (first .entry)) (now (second .entry)) ⌝ }
-    ensures { λ r. ⌜ now (second .exit)
-        ≡ secondAfter (now (file .entry)) a b (now (first .entry)) (now (second .entry)) ⌝ }
+    ensures { λ r. ⌜ RunsFunction (now (file .entry)) a b (now (first .entry)) (now (second .entry)) r
+        (now (first .exit)) (now (second .exit)) ⌝ }
 {
     match two_runs::two_runs(file, a, b, first, second) {
         RunsAnswer::Runs { operations } => RunsResult {

@@ -1,7 +1,5 @@
 // The order table, for C.
-ghost use mathlib.Core.Path.{_≡_};
-ghost use Rattle.order_table.specs.Table.{tableAnswer, tableAfter};
-ghost use Rattle.capi.specs.Results.{tableResult};
+ghost use Rattle.capi.specs.Functions.{TableFunction};
 use order_table::TableAnswer;
 
 #[repr(C)]
@@ -15,8 +13,7 @@ pub struct TableResult {
 // Questions 1 to 11 of any bytes and any table; where none refuses, the order table.
 #[no_mangle]
 pub extern "C" fn mersohki_order_table(file: &[u8], table: &mut [u16]) -> TableResult
-    ensures { λ r. ⌜ r ≡ tableResult (tableAnswer (now (file .entry)) (now (table .entry))) ⌝ }
-    ensures { λ r. ⌜ now (table .exit) ≡ tableAfter (now (file .entry)) (now (table .entry)) ⌝ }
+    ensures { λ r. ⌜ TableFunction (now (file .entry)) (now (table .entry)) r (now (table .exit)) ⌝ }
 {
     match order_table::order_table(file, table) {
         TableAnswer::Filled {

@@ -1,20 +1,20 @@
 -- The C interface: what a C caller reads off the struct that a function returns is the call's answer, so that every
--- sentence about the calls holds of it. The premises are what the functions' contracts say, line by line, at any bytes,
--- any numbers and any lent memory.
+-- sentence about the calls holds of it: for any function that keeps its promise (`TableFunction`, `RunsFunction`,
+-- `RacesFunction`, `CanonicalFunction`, or the equation that its contract is), at any bytes, any numbers and any lent
+-- memory.
 use mathlib.Core.List.{List}
 use mathlib.Core.Logic.{_⊎_, inl, inr}
 use mathlib.Core.Path.{_≡_, refl}
 use native.Mathlib.Omega.{arith}
 use Prim.Native.Nat.{ℕ, _≤_}
 use lib.ListN.{length}
-use Rattle.trace.specs.Writing.{Bytes}
 use Rattle.accept.specs.Acceptance.{acceptAnswer}
-use Rattle.order_table.specs.Table.{tableAnswer, tableAfter, TableCall}
+use Rattle.order_table.specs.Table.{tableAnswer, TableCall}
 use Rattle.pair_order.specs.Order.{orderAnswer}
-use Rattle.two_runs.specs.Runs.{runsAnswer, firstAfter, secondAfter, RunsCall}
+use Rattle.two_runs.specs.Runs.{runsAnswer, RunsCall}
 use Rattle.beginning.specs.Computed.{prefixOf}
-use Rattle.races.specs.Races.{shorter, racesAnswer, lowerAfter, higherAfter, RacesCall}
-use Rattle.canonical.specs.CanonicalFile.{canonicalAnswer, outputAfter, CanonicalCall}
+use Rattle.races.specs.Races.{shorter, racesAnswer, RacesCall}
+use Rattle.canonical.specs.CanonicalFile.{canonicalAnswer, CanonicalCall}
 use Rattle.capi.specs.declared.accept_result.AcceptResult.{AcceptResult}
 use Rattle.capi.specs.declared.table_result.TableResult.{TableResult}
 use Rattle.capi.specs.declared.order_result.OrderResult.{OrderResult}
@@ -23,14 +23,14 @@ use Rattle.capi.specs.declared.races_result.RacesResult.{RacesResult}
 use Rattle.capi.specs.declared.canonical_result.CanonicalResult.{CanonicalResult}
 use Rattle.capi.specs.declared.beginning_result.BeginningResult.{BeginningResult}
 use Rattle.capi.specs.Reading.{acceptRead, tableRead, orderRead, runsRead, racesRead, canonicalRead, beginningRead}
-use Rattle.capi.specs.Results.{acceptResult, tableResult, orderResult, runsResult, racesResult, canonicalResult}
-use Rattle.capi.specs.Results.{beginningResult}
+use Rattle.capi.specs.Functions.{TableFunction, RunsFunction, RacesFunction, CanonicalFunction}
+use Rattle.capi.specs.Results.{acceptResult, orderResult, beginningResult}
 use Rattle.capi.proofs.ReadBack.{accept-back, table-back, order-back, runs-back, races-back, canonical-back}
 use Rattle.capi.proofs.ReadBack.{beginning-back}
 use Rattle.demands.proofs.Demand1.{reading-numbers, table-numbers, order-numbers, runs-numbers, races-numbers}
 use Rattle.demands.proofs.Demand1.{canonical-numbers, races-as-count}
 
--- a number that is at least 1, or for another reason so
+-- either way the number is at least 1
 at-least : {A B : Type 0} {q : ℕ} → (B → 1 ≤ q) → ((1 ≤ q) × A) ⊎ B → 1 ≤ q
 at-least other (inl l) = l .0
 at-least other (inr b) = other b
@@ -41,11 +41,11 @@ pub c-reading : (bytes : List ℕ) {r : AcceptResult} → r ≡ acceptResult (ac
 c-reading bytes e = rw e (accept-back _ (λ q k i. reading-numbers bytes q k i .0))
 
 -- `mersohki_order_table`
-pub c-table : {bytes lent now : List ℕ} {r : TableResult} → r ≡ tableResult (tableAnswer bytes lent)
-    → now ≡ tableAfter bytes lent → TableCall bytes lent (tableRead r) now
-c-table {bytes} {lent} {now} e l =
-    let call : TableCall bytes lent (tableAnswer bytes lent) now = record { answers = refl; leaves = l } in
-    rw (e, table-back _ (λ q k i. table-numbers call q k i .0)) call
+pub c-table : {bytes lent now : List ℕ} {r : TableResult} → TableFunction bytes lent r now
+    → TableCall bytes lent (tableRead r) now
+c-table {bytes} {lent} {now} c =
+    let call : TableCall bytes lent (tableAnswer bytes lent) now = record { answers = refl; leaves = c .leaves } in
+    rw (c .returns, table-back _ (λ q k i. table-numbers call q k i .0)) call
 
 -- `mersohki_pair_order`
 pub c-order : (bytes : List ℕ) (a b : ℕ) {r : OrderResult} → r ≡ orderResult (orderAnswer bytes a b)
@@ -54,35 +54,36 @@ c-order bytes a b e = rw e (order-back _ (λ q k i. at-least (λ l. omega (arith
 
 -- `mersohki_two_runs`
 pub c-runs : {bytes first second first-now second-now : List ℕ} {a b : ℕ} {r : RunsResult}
-    → r ≡ runsResult (runsAnswer bytes a b first second)
-    → first-now ≡ firstAfter bytes a b first second
-    → second-now ≡ secondAfter bytes a b first second
+    → RunsFunction bytes a b first second r first-now second-now
     → RunsCall bytes a b first second (runsRead r) first-now second-now
-c-runs {bytes} {first} {second} {first-now} {second-now} {a} {b} e l m =
+c-runs {bytes} {first} {second} {first-now} {second-now} {a} {b} c =
     let call : RunsCall bytes a b first second (runsAnswer bytes a b first second) first-now second-now
-    = record { answers = refl; leaves-first = l; leaves-second = m } in
-    rw (e, runs-back _ (λ q k i. at-least (λ l. omega (arith, l .0)) (runs-numbers call q k i))) call
+    = record { answers = refl; leaves-first = c .leaves-first; leaves-second = c .leaves-second } in
+    rw (c .returns, runs-back _ (λ q k i. at-least (λ l. omega (arith, l .0)) (runs-numbers call q k i))) call
 
 -- `mersohki_races`
 pub c-races : {bytes table lower higher table-now lower-now higher-now : List ℕ} {r : RacesResult}
-    → r ≡ racesResult (racesAnswer bytes (length table) (shorter (length lower) (length higher)))
-    → table-now ≡ tableAfter bytes table
-    → lower-now ≡ lowerAfter bytes table lower higher
-    → higher-now ≡ higherAfter bytes table lower higher
+    → RacesFunction bytes table lower higher r table-now lower-now higher-now
     → RacesCall bytes table lower higher (racesRead r) table-now lower-now higher-now
-c-races {bytes} {table} {lower} {higher} {table-now} {lower-now} {higher-now} e t l h =
+c-races {bytes} {table} {lower} {higher} {table-now} {lower-now} {higher-now} c =
     let answer = racesAnswer bytes (length table) (shorter (length lower) (length higher)) in
     let call : RacesCall bytes table lower higher answer table-now lower-now higher-now
-    = record { answers = refl; leaves-table = t; leaves-lower = l; leaves-higher = h } in
-    rw (e, races-back _ (λ q k i. at-least (λ e. omega (arith, e)) (races-numbers (races-as-count call) q k i))) call
+    = record {
+      answers = refl;
+      leaves-table = c .leaves-table;
+      leaves-lower = c .leaves-lower;
+      leaves-higher = c .leaves-higher;
+    } in
+    let count = races-as-count call in
+    rw (c .returns, races-back _ (λ q k i. at-least (λ e. omega (arith, e)) (races-numbers count q k i))) call
 
 -- `mersohki_canonical`
-pub c-canonical : {bytes lent now : List ℕ} {r : CanonicalResult} → r ≡ canonicalResult (canonicalAnswer bytes lent)
-    → now ≡ outputAfter bytes lent → Bytes bytes → CanonicalCall bytes lent (canonicalRead r) now
-c-canonical {bytes} {lent} {now} e l b =
+pub c-canonical : {bytes lent now : List ℕ} {r : CanonicalResult} → CanonicalFunction bytes lent r now
+    → CanonicalCall bytes lent (canonicalRead r) now
+c-canonical {bytes} {lent} {now} c =
     let call : CanonicalCall bytes lent (canonicalAnswer bytes lent) now
-    = record { answers = refl; leaves = l; byte-elements = b } in
-    rw (e, canonical-back _ (λ q k i. at-least (λ e. omega (arith, e)) (canonical-numbers call q k i))) call
+    = record { answers = refl; leaves = c .leaves; byte-elements = c .byte-elements } in
+    rw (c .returns, canonical-back _ (λ q k i. at-least (λ e. omega (arith, e)) (canonical-numbers call q k i))) call
 
 -- `mersohki_beginning`
 pub c-beginning : (first second : List ℕ) (chosen other : ℕ) {r : BeginningResult}

@@ -196,7 +196,8 @@ pub starred :
     × (reportText fileC ≡ ascii "refused 10 0\n")
     × (reportText fileE ≡ ascii "ops 0 workers 1\nraces 0\n")
     × (reportText [] ≡ ascii "refused 1 0\n")
-    -- the structs of the C interface: of each call one without a refusal and one with it; of A3's beginning
+    -- the structs of the C interface: of each call one without a refusal and one with it; of the
+    -- beginnings that A3's runs have
     × (acceptResult (acceptAnswer fileA) ≡ record { number = 0; place = 0; workers = 3; operations = 7 })
     × (acceptResult (acceptAnswer fileC) ≡ record { number = 10; place = 0; workers = 0; operations = 0 })
     × (tableResult (tableAnswer fileA (nines 21)) ≡ record { number = 0; place = 0; workers = 3; operations = 7 })
@@ -212,6 +213,8 @@ pub starred :
     × (canonicalResult (canonicalAnswer mixed (nines 50)) ≡ record { number = 0; place = 0; size = 50 })
     × (canonicalResult (canonicalAnswer mixed (nines 49)) ≡ record { number = 17; place = 0; size = 0 })
     × (beginningResult (prefixOf runWith3First runWith5First 5 3) ≡ record { list = 1; length = 5 })
+    × (beginningResult (prefixOf runWith3First runWith5First 3 5) ≡ record { list = 0; length = 4 })
+    × (beginningResult (prefixOf runWith3First runWith5First 5 5) ≡ record { list = 0; length = 0 })
 unfolding value operationIn marked ranked isHeader workersFit headerQuestion ofWorker isSync isAccess kindKnown
     eventFits cellsFit recordQuestion readingFrom reading fileReading largestRun firstOutside acceptance acceptAnswer
     largestRunWithout row rows tableReading tableAnswer tableAfter mustPrecedeIn pairOrder heldBackRun pairReading
@@ -220,6 +223,8 @@ unfolding value operationIn marked ranked isHeader workersFit headerQuestion ofW
     recordsBytes bytesOf byWorker canonicalBytes canonicalReading canonicalAnswer outputAfter decimalWithin decimal
     labelled countLine pairLine raceLines listing refusal reportText
 starred = (
+  refl,
+  refl,
   refl,
   refl,
   refl,

@@ -21,7 +21,7 @@ returns : tie.Need-returns
 returns c =
     let call = c .before .before .before .before .before .canonical .ensures in
     let result = sym (ap canonicalResult (sym (call .answers) ∙ c .before .size .given .1)) in
-    (result, (call .leaves, call .byte-elements))
+    record { returns = result; leaves = call .leaves; byte-elements = call .byte-elements }
 
 same-length-2 : tie.Need-same-length-2
 same-length-2 c = search needs
@@ -30,7 +30,7 @@ returns-2 : tie.Need-returns-2
 returns-2 c =
     let call = c .before .before .before .before .before .canonical .ensures in
     let result = sym (ap canonicalResult (sym (call .answers) ∙ c .before .number .given .1)) in
-    (result, (call .leaves, call .byte-elements))
+    record { returns = result; leaves = call .leaves; byte-elements = call .byte-elements }
 
 pub mersohki-canonical-spec : {M : Type 1} → statement M
 mersohki-canonical-spec =

@@ -27,7 +27,12 @@ returns : tie.Need-returns
 returns c =
     let call = c .before .before .before .before .before .before .before .before .before .races .ensures in
     let result = sym (ap racesResult (sym (call .answers) ∙ c .before .workers .given .1)) in
-    (result, (call .leaves-table, (call .leaves-lower, call .leaves-higher)))
+    record {
+      returns = result;
+      leaves-table = call .leaves-table;
+      leaves-lower = call .leaves-lower;
+      leaves-higher = call .leaves-higher;
+    }
 
 same-length-4 : tie.Need-same-length-4
 same-length-4 c = search needs
@@ -42,7 +47,12 @@ returns-2 : tie.Need-returns-2
 returns-2 c =
     let call = c .before .before .before .before .before .before .before .before .before .races .ensures in
     let result = sym (ap racesResult (sym (call .answers) ∙ c .before .number .given .1)) in
-    (result, (call .leaves-table, (call .leaves-lower, call .leaves-higher)))
+    record {
+      returns = result;
+      leaves-table = call .leaves-table;
+      leaves-lower = call .leaves-lower;
+      leaves-higher = call .leaves-higher;
+    }
 
 pub mersohki-races-spec : {M : Type 1} → statement M
 mersohki-races-spec =

@@ -24,7 +24,7 @@ returns : tie.Need-returns
 returns c =
     let call = c .before .before .before .before .before .before .before .two-runs .ensures in
     let result = sym (ap runsResult (sym (call .answers) ∙ c .before .operations .given .1)) in
-    (result, (call .leaves-first, call .leaves-second))
+    record { returns = result; leaves-first = call .leaves-first; leaves-second = call .leaves-second }
 
 same-length-3 : tie.Need-same-length-3
 same-length-3 c = search needs
@@ -36,7 +36,7 @@ returns-2 : tie.Need-returns-2
 returns-2 c =
     let call = c .before .before .before .before .before .before .before .two-runs .ensures in
     let result = sym (ap runsResult (sym (call .answers) ∙ c .before .number .given .1)) in
-    (result, (call .leaves-first, call .leaves-second))
+    record { returns = result; leaves-first = call .leaves-first; leaves-second = call .leaves-second }
 
 pub mersohki-two-runs-spec : {M : Type 1} → statement M
 mersohki-two-runs-spec =

@@ -21,7 +21,7 @@ returns : tie.Need-returns
 returns c =
     let call = c .before .before .before .before .before .order-table .ensures in
     let result = sym (ap tableResult (sym (call .answers) ∙ c .before .workers .given .1)) in
-    (result, call .leaves)
+    record { returns = result; leaves = call .leaves }
 
 same-length-2 : tie.Need-same-length-2
 same-length-2 c = search needs
@@ -30,7 +30,7 @@ returns-2 : tie.Need-returns-2
 returns-2 c =
     let call = c .before .before .before .before .before .order-table .ensures in
     let result = sym (ap tableResult (sym (call .answers) ∙ c .before .number .given .1)) in
-    (result, call .leaves)
+    record { returns = result; leaves = call .leaves }
 
 pub mersohki-order-table-spec : {M : Type 1} → statement M
 mersohki-order-table-spec =
