@@ -14,6 +14,8 @@
  *     nothing. Where the length is 0, the pointer may be null.
  *   - A uint16_t pointer must be aligned as C wants it.
  *   - Memory that a function writes must not overlap with other memory that the same call is handed.
+ *   - Nobody else may change the memory of a call while it runs: neither the file's bytes nor what is lent. A recorder
+ *     that still writes must be copied from first.
  * Nothing else is required.
  */
 #ifndef MERSOHKI_H

@@ -1,6 +1,7 @@
 """The example of bindings/c/example.c, in Python.
 
-    rt staticlib capi && python3 bindings/python/example.py traces/b.pw
+    rt staticlib capi
+    python3 bindings/python/example.py traces/b.pw
 """
 import sys
 
@@ -9,14 +10,15 @@ import mersohki
 
 def print_witness(file, a, b):
     """Why a and b race."""
-    print("order", a, b, mersohki.pair_order(file, a, b))
     rows = mersohki.order_table(file)
-    print("row", *rows[a])
-    print("row", *rows[b])
+    for k in a, b:
+        orders = [mersohki.pair_order(file, k, other) for other in range(len(rows)) if other != k]
+        print(f"orders of {k}:", *orders)
+        print(f"row of {k}:", *rows[k])
     first, second = mersohki.two_runs(file, a, b)
-    print("run", *first)
-    print("run", *second)
-    print("beginning", *mersohki.beginning(first, second, b, a))
+    print("run:", *first)
+    print("run:", *second)
+    print("beginning:", *mersohki.beginning(first, second, b, a))
 
 
 def print_races(file):
@@ -29,14 +31,17 @@ def print_races(file):
     if races:
         print_witness(file, *races[0])
     tidy = mersohki.canonical(file)
-    print("tidy", len(tidy), "same" if tidy == file else "other")
+    print("tidy:", len(tidy), "same" if tidy == file else "other")
 
 
 def main():
     if len(sys.argv) != 2:
         sys.exit("usage: example.py TRACE")
-    with open(sys.argv[1], "rb") as trace:
-        file = trace.read()
+    try:
+        with open(sys.argv[1], "rb") as trace:
+            file = trace.read()
+    except OSError as error:
+        sys.exit(str(error))
     try:
         print_races(file)
     except mersohki.Refused as refusal:

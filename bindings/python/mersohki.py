@@ -1,11 +1,17 @@
 """Mersohki for Python: functions over the C interface (include/mersohki.h), by ctypes.
 
-The first call builds the shared object target/bindings/libmersohki.so from the static library, with the C compiler
-($CC, or cc), unless it is newer than that; `rt staticlib capi` writes the static library. A file is any bytes-like
-object. A refusal is raised as `Refused`; memory is lent by this module, so that no caller has to.
+The first call loads the shared library: the one that the environment variable MERSOHKI_LIBRARY names; or else
+libmersohki.so beside this module; or else, in the repository, target/bindings/libmersohki.so, which is linked from the
+static library with the C compiler ($CC, or cc) unless it is newer than that. `rt staticlib capi` writes the static
+library.
+
+A file is any bytes-like object. A refusal is raised as `Refused`. Memory is lent by this module, so that no caller has
+to.
 """
 import ctypes
+import enum
 import os
+import shlex
 import subprocess
 import tempfile
 from collections import namedtuple
@@ -17,22 +23,41 @@ MAX_FILE = 10 + 10 * MAX_OPERATIONS
 MAX_TABLE = MAX_OPERATIONS * MAX_WORKERS
 MAX_RACES = 491520
 
-RACE_SPACE_QUESTION = 16
-
-ROOT = Path(__file__).resolve().parents[2]
-ARCHIVE = ROOT / "target" / "staticlib" / "libcapi.a"
-SHARED_OBJECT = ROOT / "target" / "bindings" / "libmersohki.so"
-
 Counts = namedtuple("Counts", "workers operations")
 
 
+class Question(enum.IntEnum):
+    """The questions' numbers, named as in the header."""
+
+    HEADER = 1
+    WORKER_COUNT = 2
+    OPERATION_COUNT = 3
+    FILE_SIZE = 4
+    MARK = 5
+    WORKER = 6
+    KIND = 7
+    EVENT = 8
+    CELLS = 9
+    COMPLETE_RUN = 10
+    TABLE_SPACE = 11
+    IN_TRACE = 12
+    DIFFERENT = 13
+    UNORDERED = 14
+    RUN_SPACE = 15
+    RACE_SPACE = 16
+    OUTPUT_SPACE = 17
+
+
 class Refused(Exception):
-    """The first question that was answered "no", 1 to 17, and the refusal's place."""
+    """The first question that was answered "no", as `number`, 1 to 17, and the refusal's `place`."""
 
     def __init__(self, number, place):
-        super().__init__(f"refused {number} {place}")
+        super().__init__(number, place)
         self.number = number
         self.place = place
+
+    def __str__(self):
+        return f"refused {self.number} {self.place}"
 
 
 U8, U16, U32, SIZE = ctypes.c_uint8, ctypes.c_uint16, ctypes.c_uint32, ctypes.c_size_t
@@ -66,20 +91,32 @@ _FUNCTIONS = {
 }
 
 
-def build():
-    """Builds the shared object, if it is older than the static library."""
-    if not ARCHIVE.exists():
-        raise FileNotFoundError(f"{ARCHIVE}: `rt staticlib capi` writes it")
-    if SHARED_OBJECT.exists() and SHARED_OBJECT.stat().st_mtime >= ARCHIVE.stat().st_mtime:
-        return
-    SHARED_OBJECT.parent.mkdir(parents=True, exist_ok=True)
-    # linked under another name first, so that nobody loads half a file
-    with tempfile.TemporaryDirectory(dir=SHARED_OBJECT.parent) as folder:
-        linked = Path(folder) / SHARED_OBJECT.name
-        compiler = os.environ.get("CC", "cc")
-        whole = ["-Wl,--whole-archive", str(ARCHIVE), "-Wl,--no-whole-archive"]
-        subprocess.run([compiler, "-shared", "-o", str(linked), *whole], check=True)
-        os.replace(linked, SHARED_OBJECT)
+def _linked(archive, shared):
+    """The shared library, linked from the archive, if it is older than that."""
+    if not archive.exists():
+        raise FileNotFoundError(f"{archive}: `rt staticlib capi` writes it")
+    if not shared.exists() or shared.stat().st_mtime < archive.stat().st_mtime:
+        shared.parent.mkdir(parents=True, exist_ok=True)
+        compiler = shlex.split(os.environ.get("CC") or "cc")
+        whole = ["-Wl,-z,now", "-Wl,--whole-archive", str(archive), "-Wl,--no-whole-archive"]
+        # under another name first, so that nobody loads half a file
+        with tempfile.TemporaryDirectory(dir=shared.parent) as folder:
+            made = Path(folder) / shared.name
+            subprocess.run([*compiler, "-shared", "-o", str(made), *whole], check=True)
+            os.replace(made, shared)
+    return shared
+
+
+def _found():
+    named = os.environ.get("MERSOHKI_LIBRARY")
+    if named:
+        return Path(named)
+    folder = Path(__file__).resolve().parent
+    beside = folder / "libmersohki.so"
+    if beside.exists():
+        return beside
+    target = folder.parent.parent / "target"
+    return _linked(target / "staticlib" / "libcapi.a", target / "bindings" / beside.name)
 
 
 _loaded = None
@@ -88,8 +125,7 @@ _loaded = None
 def _library():
     global _loaded
     if _loaded is None:
-        build()
-        library = ctypes.CDLL(str(SHARED_OBJECT))
+        library = ctypes.CDLL(str(_found()))
         for name, (result, arguments) in _FUNCTIONS.items():
             function = getattr(library, name)
             function.restype = result
@@ -99,7 +135,7 @@ def _library():
 
 
 def _lent_bytes(file):
-    data = bytes(file)
+    data = memoryview(file).tobytes()
     return (U8 * len(data)).from_buffer_copy(data), len(data)
 
 
@@ -160,7 +196,7 @@ def races(file, space=None):
         try:
             return races(file, 4096)
         except Refused as refusal:
-            if refusal.number != RACE_SPACE_QUESTION:
+            if refusal.number != Question.RACE_SPACE:
                 raise
             return races(file, refusal.place)
     table, lower, higher = _lent_numbers(MAX_TABLE), _lent_numbers(space), _lent_numbers(space)

@@ -1,12 +1,11 @@
 //! The example of `bindings/c/example.c`, in Rust.
 //!
-//!     rustc -O bindings/rust/example.rs -L target/staticlib -o example && ./example traces/b.pw
+//!     rustc --edition 2024 -O bindings/rust/example.rs -L target/staticlib -o example
+//!     ./example traces/b.pw
 
-// Not every name of the module is used here.
-#[allow(dead_code)]
 mod mersohki;
 
-use mersohki::{Refusal, MAX_FILE, MAX_OPERATIONS, MAX_TABLE};
+use mersohki::{MAX_FILE, MAX_TABLE, Refusal};
 
 /// As many races as the report program has space for.
 const RACE_SPACE: usize = 4096;
@@ -19,52 +18,67 @@ fn print_numbers(word: &str, numbers: &[u16]) {
     println!();
 }
 
-/// Why a and b race.
-fn print_witness(file: &[u8], a: u16, b: u16) -> Result<(), Refusal> {
-    let order = mersohki::pair_order(file, a.into(), b.into())?;
-    println!("order {a} {b} {order}");
+/// The order of an operation with each other one.
+fn print_orders(file: &[u8], operations: u32, a: u32) -> Result<(), Refusal> {
+    print!("orders of {a}:");
+    for b in (0..operations).filter(|&b| b != a) {
+        print!(" {}", mersohki::pair_order(file, a, b)?);
+    }
+    println!();
+    Ok(())
+}
 
+/// Why a and b, two operations of a trace of n, race.
+fn print_witness(file: &[u8], n: usize, a: u16, b: u16) -> Result<(), Refusal> {
     let mut table = [0; MAX_TABLE];
-    let workers = mersohki::order_table(file, &mut table)?.workers as usize;
-    print_numbers("row", &table[a as usize * workers..][..workers]);
-    print_numbers("row", &table[b as usize * workers..][..workers]);
+    let counts = mersohki::order_table(file, &mut table)?;
+    let workers = counts.workers as usize;
+    for k in [a, b] {
+        let row = &table[k as usize * workers..][..workers];
+        print_orders(file, counts.operations, k.into())?;
+        print_numbers(&format!("row of {k}:"), row);
+    }
 
-    let (mut first, mut second) = ([0; MAX_OPERATIONS], [0; MAX_OPERATIONS]);
-    let n = mersohki::two_runs(file, a.into(), b.into(), &mut first, &mut second)? as usize;
-    print_numbers("run", &first[..n]);
-    print_numbers("run", &second[..n]);
-    print_numbers("beginning", mersohki::beginning(&first[..n], &second[..n], b.into(), a.into()));
+    let (mut first, mut second) = (vec![0; n], vec![0; n]);
+    mersohki::two_runs(file, a.into(), b.into(), &mut first, &mut second)?;
+    let part = mersohki::beginning(&first, &second, b.into(), a.into());
+    print_numbers("run:", &first);
+    print_numbers("run:", &second);
+    print_numbers("beginning:", part);
     Ok(())
 }
 
 fn print_races(file: &[u8]) -> Result<(), Refusal> {
     let counts = mersohki::accept(file)?;
-    let mut table = [0; MAX_TABLE];
+    let n = counts.operations as usize;
+    let mut table = vec![0; n * counts.workers as usize];
     let (mut lower, mut higher) = ([0; RACE_SPACE], [0; RACE_SPACE]);
-    let count = mersohki::races(file, &mut table, &mut lower, &mut higher)?.races as usize;
+    let listed = mersohki::races(file, &mut table, &mut lower, &mut higher)?;
 
-    println!("ops {} workers {}", counts.operations, counts.workers);
-    for i in 0..count {
+    println!("ops {} workers {}", listed.operations, listed.workers);
+    for i in 0..listed.races as usize {
         println!("race {} {}", lower[i], higher[i]);
     }
-    println!("races {count}");
-    if count > 0 {
-        print_witness(file, lower[0], higher[0])?;
+    println!("races {}", listed.races);
+    if listed.races > 0 {
+        print_witness(file, n, lower[0], higher[0])?;
     }
 
     let mut output = [0; MAX_FILE];
     let size = mersohki::canonical(file, &mut output)? as usize;
-    println!("tidy {size} {}", if output[..size] == *file { "same" } else { "other" });
+    let same = output[..size] == *file;
+    println!("tidy: {size} {}", if same { "same" } else { "other" });
     Ok(())
 }
 
 fn main() {
-    let Some(name) = std::env::args().nth(1) else {
+    let arguments: Vec<_> = std::env::args_os().skip(1).collect();
+    let [name] = &arguments[..] else {
         eprintln!("usage: example TRACE");
         std::process::exit(2);
     };
-    let file = std::fs::read(&name).unwrap_or_else(|e| {
-        eprintln!("{name}: {e}");
+    let file = std::fs::read(name).unwrap_or_else(|e| {
+        eprintln!("{}: {e}", name.display());
         std::process::exit(2);
     });
     if let Err(refusal) = print_races(&file) {

@@ -1,8 +1,11 @@
 //! Mersohki for Rust: safe functions over the C interface (`include/mersohki.h`), which has what each of them takes,
-//! writes and never touches. Slices have their true lengths, and what is written overlaps with nothing else; so nothing
-//! is left for a caller to owe.
+//! writes and never touches. Slices have their true lengths, what is written overlaps with nothing else, and nobody
+//! else can change it meanwhile; so nothing is left for a caller to owe.
 
-/// The first question that was answered "no", 1 to 17, and the refusal's place.
+// A program seldom needs all of it.
+#![allow(dead_code)]
+
+/// The first question that was answered "no", 1 to 17 (see [`question`]), and the refusal's place.
 #[derive(Clone, Copy, Debug, PartialEq, Eq)]
 pub struct Refusal {
     pub number: u8,
@@ -17,13 +20,35 @@ impl std::fmt::Display for Refusal {
 
 impl std::error::Error for Refusal {}
 
-/// An accepted trace has no more than this.
+/// The questions' numbers, named as in the header.
+pub mod question {
+    pub const HEADER: u8 = 1;
+    pub const WORKER_COUNT: u8 = 2;
+    pub const OPERATION_COUNT: u8 = 3;
+    pub const FILE_SIZE: u8 = 4;
+    pub const MARK: u8 = 5;
+    pub const WORKER: u8 = 6;
+    pub const KIND: u8 = 7;
+    pub const EVENT: u8 = 8;
+    pub const CELLS: u8 = 9;
+    pub const COMPLETE_RUN: u8 = 10;
+    pub const TABLE_SPACE: u8 = 11;
+    pub const IN_TRACE: u8 = 12;
+    pub const DIFFERENT: u8 = 13;
+    pub const UNORDERED: u8 = 14;
+    pub const RUN_SPACE: u8 = 15;
+    pub const RACE_SPACE: u8 = 16;
+    pub const OUTPUT_SPACE: u8 = 17;
+}
+
+/// An accepted trace has no more than this, so memory of these sizes is enough for every call.
 pub const MAX_WORKERS: usize = 16;
 pub const MAX_OPERATIONS: usize = 1024;
 pub const MAX_FILE: usize = 10 + 10 * MAX_OPERATIONS;
 pub const MAX_TABLE: usize = MAX_OPERATIONS * MAX_WORKERS;
 pub const MAX_RACES: usize = 491_520;
 
+/// The counts of an accepted trace.
 #[derive(Clone, Copy, Debug, PartialEq, Eq)]
 pub struct Counts {
     pub workers: u8,
@@ -93,7 +118,7 @@ mod c {
     }
 
     #[link(name = "capi", kind = "static")]
-    extern "C" {
+    unsafe extern "C" {
         pub fn mersohki_accept(file: *const u8, file_length: usize) -> AcceptResult;
         pub fn mersohki_order_table(
             file: *const u8,
@@ -101,7 +126,12 @@ mod c {
             table: *mut u16,
             table_length: usize,
         ) -> TableResult;
-        pub fn mersohki_pair_order(file: *const u8, file_length: usize, a: u32, b: u32) -> OrderResult;
+        pub fn mersohki_pair_order(
+            file: *const u8,
+            file_length: usize,
+            a: u32,
+            b: u32,
+        ) -> OrderResult;
         pub fn mersohki_two_runs(
             file: *const u8,
             file_length: usize,
@@ -150,25 +180,44 @@ fn unless_refused<T>(number: u8, place: u32, value: T) -> Result<T, Refusal> {
 
 /// Reads a file: the counts of its trace.
 pub fn accept(file: &[u8]) -> Result<Counts, Refusal> {
-    // In each function: a slice's pointer goes with its length, and a `&mut` overlaps with no other slice.
+    // SAFETY: the pointer goes with its length.
     let r = unsafe { c::mersohki_accept(file.as_ptr(), file.len()) };
-    unless_refused(r.number, r.place, Counts { workers: r.workers, operations: r.operations })
+    let counts = Counts {
+        workers: r.workers,
+        operations: r.operations,
+    };
+    unless_refused(r.number, r.place, counts)
 }
 
 /// Fills the order table: row k is the `workers` numbers from place k × `workers` on.
 pub fn order_table(file: &[u8], table: &mut [u16]) -> Result<Counts, Refusal> {
-    let r = unsafe { c::mersohki_order_table(file.as_ptr(), file.len(), table.as_mut_ptr(), table.len()) };
-    unless_refused(r.number, r.place, Counts { workers: r.workers, operations: r.operations })
+    // SAFETY: each pointer goes with its length, and `table` overlaps with nothing else.
+    let r = unsafe {
+        c::mersohki_order_table(file.as_ptr(), file.len(), table.as_mut_ptr(), table.len())
+    };
+    let counts = Counts {
+        workers: r.workers,
+        operations: r.operations,
+    };
+    unless_refused(r.number, r.place, counts)
 }
 
 /// The order of a and b: −1 where a is certain before b, +1 where b is certain before a, 0 where neither is.
 pub fn pair_order(file: &[u8], a: u32, b: u32) -> Result<i8, Refusal> {
+    // SAFETY: the pointer goes with its length.
     let r = unsafe { c::mersohki_pair_order(file.as_ptr(), file.len(), a, b) };
     unless_refused(r.number, r.place, r.sign)
 }
 
 /// Writes two complete runs, a before b in the first and b before a in the second; answers how long each is.
-pub fn two_runs(file: &[u8], a: u32, b: u32, first: &mut [u16], second: &mut [u16]) -> Result<u32, Refusal> {
+pub fn two_runs(
+    file: &[u8],
+    a: u32,
+    b: u32,
+    first: &mut [u16],
+    second: &mut [u16],
+) -> Result<u32, Refusal> {
+    // SAFETY: each pointer goes with its length, and the buffers overlap with nothing else.
     let r = unsafe {
         c::mersohki_two_runs(
             file.as_ptr(),
@@ -185,7 +234,13 @@ pub fn two_runs(file: &[u8], a: u32, b: u32, first: &mut [u16], second: &mut [u1
 }
 
 /// Lists the races, and fills the order table, which refusal 16 leaves filled too.
-pub fn races(file: &[u8], table: &mut [u16], lower: &mut [u16], higher: &mut [u16]) -> Result<Listed, Refusal> {
+pub fn races(
+    file: &[u8],
+    table: &mut [u16],
+    lower: &mut [u16],
+    higher: &mut [u16],
+) -> Result<Listed, Refusal> {
+    // SAFETY: each pointer goes with its length, and table and lists overlap with nothing else.
     let r = unsafe {
         c::mersohki_races(
             file.as_ptr(),
@@ -198,20 +253,35 @@ pub fn races(file: &[u8], table: &mut [u16], lower: &mut [u16], higher: &mut [u1
             higher.len(),
         )
     };
-    let listed = Listed { workers: r.workers, operations: r.operations, races: r.races };
+    let listed = Listed {
+        workers: r.workers,
+        operations: r.operations,
+        races: r.races,
+    };
     unless_refused(r.number, r.place, listed)
 }
 
 /// Writes the tidy file, and answers its size.
 pub fn canonical(file: &[u8], output: &mut [u8]) -> Result<u32, Refusal> {
-    let r = unsafe { c::mersohki_canonical(file.as_ptr(), file.len(), output.as_mut_ptr(), output.len()) };
+    // SAFETY: each pointer goes with its length, and `output` overlaps with nothing else.
+    let r = unsafe {
+        c::mersohki_canonical(file.as_ptr(), file.len(), output.as_mut_ptr(), output.len())
+    };
     unless_refused(r.number, r.place, r.size)
 }
 
 /// The part of one of two lists that ends with `chosen`, where `other` comes later; else nothing.
 pub fn beginning<'a>(first: &'a [u16], second: &'a [u16], chosen: u32, other: u32) -> &'a [u16] {
+    // SAFETY: each pointer goes with its length.
     let r = unsafe {
-        c::mersohki_beginning(first.as_ptr(), first.len(), second.as_ptr(), second.len(), chosen, other)
+        c::mersohki_beginning(
+            first.as_ptr(),
+            first.len(),
+            second.as_ptr(),
+            second.len(),
+            chosen,
+            other,
+        )
     };
     if r.list == 0 {
         &first[..r.length]
