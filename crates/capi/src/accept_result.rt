@@ -12,12 +12,11 @@ pub struct AcceptResult {
     pub operations: u32,
 }
 
-// Questions 1 to 10 of any bytes.
-#[no_mangle]
-pub extern "C" fn mersohki_accept(file: &[u8]) -> AcceptResult
-    ensures { λ r. ⌜ r ≡ acceptResult (acceptAnswer (now (file .entry))) ⌝ }
+// The struct of an answer.
+fn result_of(answer: AcceptAnswer) -> AcceptResult
+    ensures { λ r. ⌜ r ≡ acceptResult answer ⌝ }
 {
-    match accept::accept(file) {
+    match answer {
         AcceptAnswer::Accepted {
             workers,
             operations,
@@ -34,4 +33,12 @@ pub extern "C" fn mersohki_accept(file: &[u8]) -> AcceptResult
             operations: 0,
         },
     }
+}
+
+// Questions 1 to 10 of any bytes.
+#[no_mangle]
+pub extern "C" fn mersohki_accept(file: &[u8]) -> AcceptResult
+    ensures { λ r. ⌜ r ≡ acceptResult (acceptAnswer (now (file .entry))) ⌝ }
+{
+    result_of(accept::accept(file))
 }

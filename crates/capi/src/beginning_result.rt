@@ -11,6 +11,22 @@ pub struct BeginningResult {
     pub length: usize,
 }
 
+// The struct of an answer.
+fn result_of(answer: Prefix) -> BeginningResult
+    ensures { λ r. ⌜ r ≡ beginningResult answer ⌝ }
+{
+    match answer {
+        Prefix::OfFirst { length } => BeginningResult {
+            list: 0,
+            length: length,
+        },
+        Prefix::OfSecond { length } => BeginningResult {
+            list: 1,
+            length: length,
+        },
+    }
+}
+
 // The part of the first list that ends with the first appearance of `chosen`, where `other` appears after it and not
 // before it; failing that, the same part of the second list; failing both, nothing of the first.
 #[no_mangle]
@@ -23,14 +39,5 @@ pub extern "C" fn mersohki_beginning(
     ensures { λ r. ⌜ r
         ≡ beginningResult (prefixOf (now (first .entry)) (now (second .entry)) chosen other) ⌝ }
 {
-    match beginning::which_prefix(first, second, chosen, other) {
-        Prefix::OfFirst { length } => BeginningResult {
-            list: 0,
-            length: length,
-        },
-        Prefix::OfSecond { length } => BeginningResult {
-            list: 1,
-            length: length,
-        },
-    }
+    result_of(beginning::which_prefix(first, second, chosen, other))
 }

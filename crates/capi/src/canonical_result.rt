@@ -1,5 +1,7 @@
 // The tidy file, for C.
+ghost use mathlib.Core.Path.{_≡_};
 ghost use Rattle.capi.specs.Functions.{CanonicalFunction};
+ghost use Rattle.capi.specs.Results.{canonicalResult};
 use canonical::CanonicalAnswer;
 
 #[repr(C)]
@@ -9,12 +11,11 @@ pub struct CanonicalResult {
     pub size: u32,
 }
 
-// Questions 1 to 10 and 17 of any bytes and any output; where none refuses, the tidy file.
-#[no_mangle]
-pub extern "C" fn mersohki_canonical(file: &[u8], output: &mut [u8]) -> CanonicalResult
-    ensures { λ r. ⌜ CanonicalFunction (now (file .entry)) (now (output .entry)) r (now (output .exit)) ⌝ }
+// The struct of an answer.
+fn result_of(answer: CanonicalAnswer) -> CanonicalResult
+    ensures { λ r. ⌜ r ≡ canonicalResult answer ⌝ }
 {
-    match canonical::canonical(file, output) {
+    match answer {
         CanonicalAnswer::Written { size } => CanonicalResult {
             number: 0,
             place: 0,
@@ -26,4 +27,12 @@ pub extern "C" fn mersohki_canonical(file: &[u8], output: &mut [u8]) -> Canonica
             size: 0,
         },
     }
+}
+
+// Questions 1 to 10 and 17 of any bytes and any output; where none refuses, the tidy file.
+#[no_mangle]
+pub extern "C" fn mersohki_canonical(file: &[u8], output: &mut [u8]) -> CanonicalResult
+    ensures { λ r. ⌜ CanonicalFunction (now (file .entry)) (now (output .entry)) r (now (output .exit)) ⌝ }
+{
+    result_of(canonical::canonical(file, output))
 }

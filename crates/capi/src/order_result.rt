@@ -11,12 +11,11 @@ pub struct OrderResult {
     pub sign: i8,
 }
 
-// Questions 1 to 10, 12 and 13 of any bytes and any two numbers; where none refuses, the order of the two operations.
-#[no_mangle]
-pub extern "C" fn mersohki_pair_order(file: &[u8], a: u32, b: u32) -> OrderResult
-    ensures { λ r. ⌜ r ≡ orderResult (orderAnswer (now (file .entry)) a b) ⌝ }
+// The struct of an answer.
+fn result_of(answer: OrderAnswer) -> OrderResult
+    ensures { λ r. ⌜ r ≡ orderResult answer ⌝ }
 {
-    match pair_order::pair_order(file, a, b) {
+    match answer {
         OrderAnswer::Ordered { sign } => OrderResult {
             number: 0,
             place: 0,
@@ -28,4 +27,12 @@ pub extern "C" fn mersohki_pair_order(file: &[u8], a: u32, b: u32) -> OrderResul
             sign: 0,
         },
     }
+}
+
+// Questions 1 to 10, 12 and 13 of any bytes and any two numbers; where none refuses, the order of the two operations.
+#[no_mangle]
+pub extern "C" fn mersohki_pair_order(file: &[u8], a: u32, b: u32) -> OrderResult
+    ensures { λ r. ⌜ r ≡ orderResult (orderAnswer (now (file .entry)) a b) ⌝ }
+{
+    result_of(pair_order::pair_order(file, a, b))
 }

@@ -1,5 +1,7 @@
 // The race list on two lists of numbers, for C.
+ghost use mathlib.Core.Path.{_≡_};
 ghost use Rattle.capi.specs.Functions.{RacesFunction};
+ghost use Rattle.capi.specs.Results.{racesResult};
 use races::RacesAnswer;
 
 #[repr(C)]
@@ -11,19 +13,11 @@ pub struct RacesResult {
     pub races: u32,
 }
 
-// Questions 1 to 11 and 16 of any bytes, any table and any two lists; where none refuses, the races, and the order
-// table; where 16 does, the order table.
-#[no_mangle]
-pub extern "C" fn mersohki_races(
-    file: &[u8],
-    table: &mut [u16],
-    lower: &mut [u16],
-    higher: &mut [u16],
-) -> RacesResult
-    ensures { λ r. ⌜ RacesFunction (now (file .entry)) (now (table .entry)) (now (lower .entry)) (now (higher .entry)) r
-        (now (table .exit)) (now (lower .exit)) (now (higher .exit)) ⌝ }
+// The struct of an answer.
+fn result_of(answer: RacesAnswer) -> RacesResult
+    ensures { λ r. ⌜ r ≡ racesResult answer ⌝ }
 {
-    match races::races(file, table, lower, higher) {
+    match answer {
         RacesAnswer::Listed {
             workers,
             operations,
@@ -43,4 +37,19 @@ pub extern "C" fn mersohki_races(
             races: 0,
         },
     }
+}
+
+// Questions 1 to 11 and 16 of any bytes, any table and any two lists; where none refuses, the races, and the order
+// table; where 16 does, the order table.
+#[no_mangle]
+pub extern "C" fn mersohki_races(
+    file: &[u8],
+    table: &mut [u16],
+    lower: &mut [u16],
+    higher: &mut [u16],
+) -> RacesResult
+    ensures { λ r. ⌜ RacesFunction (now (file .entry)) (now (table .entry)) (now (lower .entry)) (now (higher .entry)) r
+        (now (table .exit)) (now (lower .exit)) (now (higher .exit)) ⌝ }
+{
+    result_of(races::races(file, table, lower, higher))
 }

@@ -1,5 +1,7 @@
 // The order table, for C.
+ghost use mathlib.Core.Path.{_≡_};
 ghost use Rattle.capi.specs.Functions.{TableFunction};
+ghost use Rattle.capi.specs.Results.{tableResult};
 use order_table::TableAnswer;
 
 #[repr(C)]
@@ -10,12 +12,11 @@ pub struct TableResult {
     pub operations: u32,
 }
 
-// Questions 1 to 11 of any bytes and any table; where none refuses, the order table.
-#[no_mangle]
-pub extern "C" fn mersohki_order_table(file: &[u8], table: &mut [u16]) -> TableResult
-    ensures { λ r. ⌜ TableFunction (now (file .entry)) (now (table .entry)) r (now (table .exit)) ⌝ }
+// The struct of an answer.
+fn result_of(answer: TableAnswer) -> TableResult
+    ensures { λ r. ⌜ r ≡ tableResult answer ⌝ }
 {
-    match order_table::order_table(file, table) {
+    match answer {
         TableAnswer::Filled {
             workers,
             operations,
@@ -32,4 +33,12 @@ pub extern "C" fn mersohki_order_table(file: &[u8], table: &mut [u16]) -> TableR
             operations: 0,
         },
     }
+}
+
+// Questions 1 to 11 of any bytes and any table; where none refuses, the order table.
+#[no_mangle]
+pub extern "C" fn mersohki_order_table(file: &[u8], table: &mut [u16]) -> TableResult
+    ensures { λ r. ⌜ TableFunction (now (file .entry)) (now (table .entry)) r (now (table .exit)) ⌝ }
+{
+    result_of(order_table::order_table(file, table))
 }
