@@ -94,7 +94,10 @@ _FUNCTIONS = {
 def _linked(archive, shared):
     """The shared library, linked from the archive, if it is older than that."""
     if not archive.exists():
-        raise FileNotFoundError(f"{archive}: `rt staticlib capi` writes it")
+        raise FileNotFoundError(
+            "MERSOHKI_LIBRARY is not set, no libmersohki.so lies beside the module, and there is no"
+            f" {archive}, which `rt staticlib capi` writes"
+        )
     if not shared.exists() or shared.stat().st_mtime < archive.stat().st_mtime:
         shared.parent.mkdir(parents=True, exist_ok=True)
         compiler = shlex.split(os.environ.get("CC") or "cc")
@@ -110,7 +113,7 @@ def _linked(archive, shared):
 def _found():
     named = os.environ.get("MERSOHKI_LIBRARY")
     if named:
-        return Path(named)
+        return Path(named).resolve()
     folder = Path(__file__).resolve().parent
     beside = folder / "libmersohki.so"
     if beside.exists():

@@ -40,10 +40,10 @@ fn print_witness(file: &[u8], n: usize, a: u16, b: u16) -> Result<(), Refusal> {
     }
 
     let (mut first, mut second) = (vec![0; n], vec![0; n]);
-    mersohki::two_runs(file, a.into(), b.into(), &mut first, &mut second)?;
+    let length = mersohki::two_runs(file, a.into(), b.into(), &mut first, &mut second)? as usize;
     let part = mersohki::beginning(&first, &second, b.into(), a.into());
-    print_numbers("run:", &first);
-    print_numbers("run:", &second);
+    print_numbers("run:", &first[..length]);
+    print_numbers("run:", &second[..length]);
     print_numbers("beginning:", part);
     Ok(())
 }
@@ -78,7 +78,7 @@ fn main() {
         std::process::exit(2);
     };
     let file = std::fs::read(name).unwrap_or_else(|e| {
-        eprintln!("{}: {e}", name.display());
+        eprintln!("{}: {e}", std::path::Path::new(name).display());
         std::process::exit(2);
     });
     if let Err(refusal) = print_races(&file) {

@@ -1,6 +1,6 @@
 //! Mersohki for Rust: safe functions over the C interface (`include/mersohki.h`), which has what each of them takes,
 //! writes and never touches. Slices have their true lengths, what is written overlaps with nothing else, and nobody
-//! else can change it meanwhile; so nothing is left for a caller to owe.
+//! else can change any of it meanwhile; so nothing is left for a caller to owe.
 
 // A program seldom needs all of it.
 #![allow(dead_code)]

@@ -1,4 +1,5 @@
--- `mersohki_races` meets its contract: the struct of what the call answers. Assumes nothing.
+-- `mersohki_races` meets its contract: the struct of what the call answers, and what the call leaves.
+-- Assumes nothing.
 use mathlib.Core.Path.{ap, _∙_}
 use borrow.Author.Needs.{needs}
 use Rattle.capi.specs.Results.{racesResult}
