@@ -5,8 +5,8 @@
  * answers with a struct, by value. docs/GUIDE.md says what a trace file is, and what to do about a refusal.
  *
  * Link with target/staticlib/libcapi.a, which `rt staticlib capi` writes (x86-64, Linux). The library needs memcpy and
- * memset of the C library, and nothing else: it allocates nothing, keeps nothing between calls, and calls no system.
- * So any number of threads may call it at once, each with memory of its own to be written.
+ * memset of the C library, and nothing else: it allocates nothing, keeps nothing between calls, and makes no system
+ * call. So any number of threads may call it at once, each with memory of its own to be written.
  *
  * What a caller owes, and what C cannot check:
  *   - A length must be the true length of the memory that the pointer before it points to, in elements: bytes for a

@@ -1,4 +1,4 @@
--- What the C functions promise that write: the struct that they return, and what is in lent memory afterwards, by the
+-- What the C functions that write promise: the struct that they return, and what is in lent memory afterwards, by the
 -- definitions of the calls' own promises.
 -- Follows: document 01, "The questions".
 -- Differs: nowhere.
