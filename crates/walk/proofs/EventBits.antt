@@ -1,19 +1,19 @@
 -- The set of posted events. In order: a bit of a word; the code's shift and mask; an event is posted exactly if its bit
 -- is 1; after a post; at the start; the event of an operation; which files have such events.
-use mathlib.Core.Bool.{false, not, _||_}
+use mathlib.Core.Bool.{true, false, not, _||_}
 use mathlib.Core.List.{List}
 use mathlib.Core.Logic.{_⊎_, inl, inr, _≢_}
-use mathlib.Core.Path.{_≡_, sym, _∙_}
+use mathlib.Core.Path.{_≡_, refl, sym, _∙_}
 use native.Mathlib.Nat.{mod-eq-of-lt, one-mul, div-self, div-eq-of-lt, mul-div-cancel, zero-mul, max-zero}
 use native.Mathlib.Omega.{arith}
 use Prim.Native.Nat.{ℕ, zero, suc, _+_, _-_, _*_, _/_, _%_, _^_, _≤_, _<_, max}
-use lib.Bits.{bitAnd, bitOr, and-high, or-shr, or-step}
+use lib.Bits.{bitAnd, bitOr, and-high, or-shr, or-step, or-add-and}
 use lib.Dec.{T, eqb}
 use lib.ListN.{length, getD, set, replicate, length-set, length-replicate, getD-replicate, List·getD-eq-default}
 use lib.Pow.{pow-lt, pow-add, pow-pos}
-use lib.Seq.{getD-set-same, getD-set-other}
+use lib.Seq.{getD-set-same, getD-set-other, set-getD}
 use borrow.Author.Tests.{eq-eqb, ne-eqb}
-use Rattle.runs.proofs.Booleans.{equal?, less?}
+use Rattle.runs.proofs.Booleans.{equal?, less?, test-true, zero-one}
 use Rattle.trace.specs.declared.Operation.{Operation}
 use Rattle.trace.specs.Premises.{HoldsTrace}
 use Rattle.trace.specs.Reading.{traceOf}
@@ -115,6 +115,23 @@ posted-after events e d h l = posted-bit (set events (e / 64) word) d ∙ go (eq
     go (inr i) (inr j) =
         rw (ne-eqb e d (λ z. i (sym z)), posted-bit events d, getD-set-other events (e / 64) (d / 64) word 0 j)
 
+-- an event that is posted already stays so, and nothing changes
+pub posted-again : (events : List ℕ) (e : ℕ) → isPosted events e ≡ true → withPost events e ≡ events
+unfolding withPost isPosted
+posted-again events e h = rw (word (eventBit events e) refl (omega arith)) (set-getD events (e / 64) 0)
+  where
+    old : ℕ
+    old = getD events (e / 64) 0
+
+    word : (b : ℕ) → eventBit events e ≡ b → b < 2 → bitOr old (2 ^ (e % 64)) ≡ old
+    word zero i l =
+        let unset : not (eqb (bitAnd old (2 ^ (e % 64))) 0) ≡ false = rw (and-bit old (e % 64), i, zero-mul) in
+        absurd (zero-one cc)
+    word (suc zero) i l =
+        let mask : bitAnd old (2 ^ (e % 64)) ≡ 2 ^ (e % 64) = and-bit old (e % 64) ∙ rw (i, one-mul) in
+        omega (arith, or-add-and old (2 ^ (e % 64)), mask)
+    word (suc (suc b)) i l = absurd (omega arith)
+
 -- ---- at the start
 
 -- an array of zeros, at any place
@@ -143,6 +160,13 @@ sync-kind (suc (suc (suc kind))) h l = absurd (omega arith)
 pub event-below : {t : Trace} → Fits t → {k : ℕ} → k < size t → {o : Operation} → o ≡ operation t k
     → 1 ≤ o .kind → o .kind ≤ 2 → o .number < 256
 event-below {t} f {k} l {o} e low high = omega (arith, admitted .event (sync-kind (o .kind) low high) .0)
+  where
+    admitted : Admitted (t .workers) o
+    admitted = rw e (f .each k l)
+
+pub sync-below : {t : Trace} → Fits t → {k : ℕ} → k < size t → {o : Operation} → o ≡ operation t k
+    → isSync (o .kind) ≡ true → o .number < 256
+sync-below {t} f {k} l {o} e h = omega (arith, admitted .event (test-true _ .0 h) .0)
   where
     admitted : Admitted (t .workers) o
     admitted = rw e (f .each k l)

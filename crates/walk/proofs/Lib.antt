@@ -3,4 +3,5 @@
 pub mod EventBits
 pub mod NextOperations
 pub mod Moves
+pub mod Turns
 pub mod Loops

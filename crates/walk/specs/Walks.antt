@@ -28,9 +28,17 @@ pub record Walkable (bytes : List ℕ) (p n : ℕ) (order starts : List ℕ) : T
   pub holds : HoldsTrace bytes p n
   pub indexed : Indexed (traceOf bytes) order starts
 
+-- with the trace's own counts
+abbrev pub Placed : List ℕ → List ℕ → List ℕ → Type 0
+Placed bytes order starts = Walkable bytes (traceOf bytes .workers) (size (traceOf bytes)) order starts
+
 -- nothing done, "all reset at the start"
 abbrev pub startWalk : Walk
 startWalk = record { done = replicate 16 0; events = replicate 4 0 }
+
+-- the state with these counts and events
+abbrev pub stateOf : List ℕ → List ℕ → Walk
+stateOf done events = record { done = done; events = events }
 
 -- worker q's next operation; the size of the trace where it has none left
 unfoldable pub nextOf : Trace → Walk → ℕ → ℕ

@@ -1,12 +1,13 @@
 // Walks over a file's trace: the state of a walk, its steps, and where a walk ends. For the crates above, which have
 // read the file and indexed its operations before.
 ghost use mathlib.Core.Path.{_≡_};
-ghost use Prim.Native.Nat.{_<_};
-ghost use lib.ListN.{getD};
+ghost use Prim.Native.Nat.{_+_, _<_, _≤_, min};
+ghost use lib.ListN.{length, getD, set};
 ghost use Rattle.trace.specs.Reading.{traceOf};
-ghost use Rattle.trace.specs.Trace.{size, workerOf};
+ghost use Rattle.trace.specs.Trace.{size, operation, workerOf};
 ghost use Rattle.walk.specs.Events.{isPosted, withPost};
-ghost use Rattle.walk.specs.Walks.{Fits, Walkable, startWalk, nextOf, mayRun, move, added, walkFrom, lowestLeft};
+ghost use Rattle.walk.specs.Turns.{Listed, passes, Stop, postsAt, EventAt, Due, Turned};
+ghost use Rattle.walk.specs.Walks.{Fits, Walkable, Placed, startWalk, stateOf, nextOf, added, walkFrom, lowestLeft};
 
 // How many operations each worker has done, and the set of posted events: event e is bit e % 64 of word e / 64.
 pub struct Walk {
@@ -25,22 +26,20 @@ pub fn start_walk() -> Walk
 }
 
 // Is event e posted?
-fn is_posted(events: [u64; 4], e: u32) -> bool
+fn is_posted(events: &[u64; 4], e: u32) -> bool
     requires { ⌜ e < 256 ⌝ }
-    ensures { λ r. ⌜ r ≡ isPosted events e ⌝ }
+    ensures { λ r. ⌜ r ≡ isPosted (now (events .entry)) e ⌝ }
 {
     (events[(e / 64) as usize] & (1u64 << (e % 64))) != 0
 }
 
-// The events with e posted.
-fn with_post(events: [u64; 4], e: u32) -> [u64; 4]
+// Posts event e.
+fn post(events: &mut [u64; 4], e: u32)
     requires { ⌜ e < 256 ⌝ }
-    ensures { λ r. ⌜ r ≡ withPost events e ⌝ }
+    ensures { λ r. ⌜ now (events .exit) ≡ withPost (now (events .entry)) e ⌝ }
 {
     let word = (e / 64) as usize;
-    let mut next = events;
-    next[word] = next[word] | (1u64 << (e % 64));
-    next
+    events[word] = events[word] | (1u64 << (e % 64));
 }
 
 // A 16-bit number as an index.
@@ -70,47 +69,43 @@ pub fn next_operation(
     n
 }
 
-// Is k an operation, other than the one left out, that need not wait?
-fn may_run(file: &[u8], n: usize, left_out: usize, events: [u64; 4], k: usize) -> bool
-    requires { ⌜ Fits (traceOf (now file)) × (size (traceOf (now file)) ≡ n) ⌝ }
-    ensures { λ r. ⌜ r ≡ mayRun (traceOf (now (file .entry))) «left_out» events k ⌝ }
+// Can k, an operation, be taken with nothing else freed by it: is it not the one left out, and, if it is a Post or a
+// Wait, is its event posted already?
+fn passes_on(file: &[u8], left_out: usize, events: &[u64; 4], k: usize) -> bool
+    requires { ⌜ Fits (traceOf (now file)) × (k < size (traceOf (now file))) ⌝ }
+    ensures { λ r. ⌜ r ≡ passes (traceOf (now (file .entry))) «left_out» (now (events .entry)) k ⌝ }
 {
-    if k < n {
-        if k == left_out {
-            return false;
-        }
-        let o = trace::operation_of(file, k);
-        if o.kind == 2 {
-            return is_posted(events, o.number);
-        }
-        return true;
+    if k == left_out {
+        return false;
     }
-    false
+    let o = trace::operation_of(file, k);
+    if trace::is_sync(o.kind) {
+        return is_posted(events, o.number);
+    }
+    true
 }
 
-// The operation that goes next: that of the lowest-numbered worker whose next operation may run; n where none may.
-pub fn next_move(
+// The first place from `from` on, below `end`, whose operation does not pass.
+fn stop_of(
     file: &[u8],
-    p: usize,
-    n: usize,
     order: &[u16; 1024],
-    starts: &[u16; 17],
     left_out: usize,
-    w: Walk,
+    events: &[u64; 4],
+    from: usize,
+    end: usize,
 ) -> usize
-    requires { ⌜ Walkable (now file) p n (now order) (now starts) ⌝ }
-    ensures { λ r. ⌜ r ≡ move (traceOf (now (file .entry))) «left_out» w ⌝ }
+    requires { ⌜ Fits (traceOf (now file)) × Listed (traceOf (now file)) (now order) «end» ⌝ }
+    ensures { λ r. ⌜ Stop (traceOf (now (file .entry))) «left_out» (now (events .entry)) (now (order .entry)) from «end»
+        r ⌝ }
 {
-    let mut q: usize = 0;
-    while q < p {
-        let k = next_operation(file, p, n, order, starts, w, q);
-        let events = w.events;
-        if may_run(file, n, left_out, events, k) {
-            return k;
+    let mut at = from;
+    while at < end {
+        if !passes_on(file, left_out, events, wide(order[at])) {
+            return at;
         }
-        q += 1;
+        at += 1;
     }
-    n
+    at
 }
 
 // The state after operation k: its worker has done one more, and a Post sets its event.
@@ -124,18 +119,106 @@ pub fn add(file: &[u8], w: Walk, k: usize) -> Walk
     let q = o.worker as usize;
     let mut done = w.done;
     done[q] = done[q] + 1;
-    let events = w.events;
+    let mut events = w.events;
     if o.kind == 1 {
-        let posted = with_post(events, o.number);
-        return Walk {
-            done: done,
-            events: posted,
-        };
+        post(&mut events, o.number);
     }
     Walk {
         done: done,
         events: events,
     }
+}
+
+// The place of worker q's next operation, or of the end of its part.
+fn next_place(starts: &[u16; 17], done: &[u16; 16], q: usize) -> usize
+    requires { ⌜ q < 16 ⌝ }
+    ensures { λ r. ⌜ (r ≡ getD (now (starts .entry)) q 0 + getD (now (done .entry)) q 0)
+        × (getD (now (done .entry)) q 0 < 65536) ⌝ }
+{
+    wide(starts[q]) + wide(done[q])
+}
+
+// The end of at most `left` places from `from` on, in worker q's part.
+fn limit(starts: &[u16; 17], q: usize, from: usize, left: usize) -> usize
+    requires { ⌜ q < 16 ⌝ }
+    ensures { λ r. ⌜ r ≡ min (getD (now (starts .entry)) (q + 1) 0) (from + left) ⌝ }
+{
+    let end = wide(starts[q + 1]);
+    if end <= from {
+        return end;
+    }
+    if left < end - from {
+        return from + left;
+    }
+    end
+}
+
+// Is there, at a place below `end`, a Post that is not left out?
+fn posts_at(file: &[u8], order: &[u16; 1024], left_out: usize, end: usize, at: usize) -> bool
+    requires { ⌜ Listed (traceOf (now file)) (now order) «end» ⌝ }
+    ensures { λ r. ⌜ r ≡ postsAt (traceOf (now (file .entry))) (now (order .entry)) «left_out» «end» at ⌝ }
+{
+    if end <= at {
+        return false;
+    }
+    let k = wide(order[at]);
+    if k == left_out {
+        return false;
+    }
+    let o = trace::operation_of(file, k);
+    o.kind == 1
+}
+
+// Posts the event of the operation at a place.
+fn post_at(file: &[u8], order: &[u16; 1024], at: usize, events: &mut [u64; 4])
+    requires { ⌜ EventAt (traceOf (now file)) (now order) at ⌝ }
+    ensures { λ r. ⌜ now (events .exit) ≡ withPost (now (events .entry))
+        (operation (traceOf (now (file .entry))) (getD (now (order .entry)) at 0) .number) ⌝ }
+{
+    let o = trace::operation_of(file, wide(order[at]));
+    post(events, o.number);
+}
+
+// Worker q has done `more` operations more.
+fn advance(done: &mut [u16; 16], q: usize, more: usize)
+    requires { ⌜ (q < 16) × (getD (now done) q 0 + more < 65536) ⌝ }
+    ensures { λ r. ⌜ now (done .exit) ≡ set (now (done .entry)) q (getD (now (done .entry)) q 0 + more) ⌝ }
+{
+    done[q] = (wide(done[q]) + more) as u16;
+}
+
+// Worker q's turn, of at most `left` operations: it goes on while its operations pass, and takes a Post of an event
+// that is not posted. Answers whose turn it is then: worker 0's after such a Post, which may have freed others, and
+// otherwise the next worker's.
+pub fn turn(
+    file: &[u8],
+    order: &[u16; 1024],
+    starts: &[u16; 17],
+    left_out: usize,
+    left: usize,
+    q: usize,
+    done: &mut [u16; 16],
+    events: &mut [u64; 4],
+) -> usize
+    requires { ⌜ Placed (now file) (now order) (now starts)
+        × (q < traceOf (now file) .workers)
+        × (length (now done) ≡ 16)
+        × Due (traceOf (now file)) «left_out» «left» (stateOf (now done) (now events)) q ⌝ }
+    ensures { λ r. ⌜ Turned (traceOf (now (file .entry))) «left_out» «left» (now (order .entry))
+        (getD (now (starts .entry)) q 0 + getD (now (done .entry)) q 0)
+        (stateOf (now (done .entry)) (now (events .entry))) q
+        (stateOf (now (done .exit)) (now (events .exit))) r ⌝ }
+{
+    let from = next_place(starts, done, q);
+    let end = limit(starts, q, from, left);
+    let at = stop_of(file, order, left_out, events, from, end);
+    if posts_at(file, order, left_out, end, at) {
+        post_at(file, order, at, events);
+        advance(done, q, at + 1 - from);
+        return 0;
+    }
+    advance(done, q, at - from);
+    q + 1
 }
 
 // The state at the end of the walk from `start` that leaves out one operation. Where the number left out is n, which no
@@ -152,17 +235,20 @@ pub fn walk_from(
     requires { ⌜ Walkable (now file) p n (now order) (now starts) ⌝ }
     ensures { λ r. ⌜ r ≡ walkFrom (traceOf (now (file .entry))) «left_out» start n ⌝ }
 {
-    let mut w = start;
+    let mut done = start.done;
+    let mut events = start.events;
     let mut left = n;
-    while 0 < left {
-        let k = next_move(file, p, n, order, starts, left_out, w);
-        if n <= k {
-            return w;
-        }
-        w = add(file, w, k);
-        left -= 1;
+    let mut q: usize = 0;
+    while q < p {
+        let before = wide(done[q]);
+        let next = turn(file, order, starts, left_out, left, q, &mut done, &mut events);
+        left -= wide(done[q]) - before;
+        q = next;
     }
-    w
+    Walk {
+        done: done,
+        events: events,
+    }
 }
 
 // The lowest of the workers' next operations; n where none has one left.

@@ -39,18 +39,18 @@ mul-done-2 c = search needs
 array-write-done : tie.Need-array-write-done
 array-write-done c = lower (c .before .before)
 
-with-post-requires : tie.Need-with-post-requires
-with-post-requires c κs =
-    let c5 = c .before .before .before .before .before in
-    let c7 = c5 .before .before in
-    event-below (c7 .pre .0) (c7 .pre .1) (c5 .operation-of .ensures) (omega arith) (omega arith)
+post-requires : tie.Need-post-requires
+post-requires c κs =
+    let c6 = c .before .before .before .before .before .before in
+    let c8 = c6 .before .before in
+    event-below (c8 .pre .0) (c8 .pre .1) (c6 .operation-of .ensures) (omega arith) (omega arith)
 
 returns : tie.Need-returns
 unfolding added
 returns c =
-    let c1 = c .before in
-    let c6 = c1 .before .before .before .before .before in
-    simp (← c6 .operation-of .ensures, eq-eqb _ _ (c1 .if1 .taken), c .with-post .ensures)
+    let c2 = c .before .before in
+    let c7 = c2 .before .before .before .before .before in
+    simp (← c7 .operation-of .ensures, eq-eqb _ _ (c2 .if1 .taken), c .post .ensures)
 
 returns-2 : tie.Need-returns-2
 unfolding added
@@ -67,6 +67,6 @@ add-spec =
     add-done
     mul-done-2
     array-write-done
-    with-post-requires
+    post-requires
     returns
     returns-2)

@@ -10,8 +10,8 @@ cast-result c = search needs
 mul-result : tie.Need-mul-result
 mul-result c = search needs
 
-array-read-result : tie.Need-array-read-result
-array-read-result c = search needs
+element-copy-out-result : tie.Need-element-copy-out-result
+element-copy-out-result c = search needs
 
 cast-result-2 : tie.Need-cast-result-2
 cast-result-2 c = search needs
@@ -20,8 +20,9 @@ shl-result : tie.Need-shl-result
 shl-result c = search needs
 
 returns : tie.Need-returns
-returns c = shift-test _ (c .args .e)
+returns c = shift-test _ (c .before .args .e)
 
 pub is-posted-spec : {M : Type 1} → statement M
 is-posted-spec =
-    tie.close (tie.spec cast-result mul-result array-read-result cast-result-2 shl-result returns)
+    tie.close
+    (tie.spec cast-result mul-result element-copy-out-result cast-result-2 shl-result returns)

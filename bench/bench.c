@@ -1,0 +1,709 @@
+/*
+ * Times the six calls of the library on a file, and the same calls written by hand in C (native.c), on the same random
+ * traces. Before that, it compares all answers and all lent memory of the two.
+ *
+ *     bench                          compares, then times; exit code 1 if there is a difference
+ *     bench --compare                only compares
+ *     bench --pass FAMILY P TRACES   each call once per trace, n = 1,024, for bench/instructions to count
+ */
+#define _POSIX_C_SOURCE 200809L
+
+#include <stdio.h>
+#include <stdlib.h>
+#include <string.h>
+#include <time.h>
+
+#include "mersohki.h"
+#include "native.h"
+
+#ifndef BENCH_FLAGS
+#define BENCH_FLAGS "not said"
+#endif
+
+enum {
+    POST = 1, WAIT = 2, READ = 3, WRITE = 4,
+    RECORDS = 65536,       /* of all traces of a cell: so there are RECORDS / n of them */
+    MOST_TRACES = 1024,
+    DAMAGED = 6000,        /* files of each sort that are only compared */
+    SMALL = 48,            /* operations that these have at most */
+    MORE = 8,              /* bytes that they may be too long by */
+    GUARD = 16,            /* elements behind lent memory that must stay as they were */
+    FEWEST_ROUNDS = 5,
+    FEWEST_SLOW_ROUNDS = 2,
+    MOST_ROUNDS = 1000
+};
+
+static const double CELL_SECONDS = 0.15, SLOW_SECONDS = 1.0;
+static const uint32_t sizes[] = {64, 128, 256, 512, 1024};
+static const uint32_t worker_counts[] = {16, 4};
+enum { SIZES = 5, WORKER_COUNTS = 2 };
+
+/* Random numbers: splitmix64 */
+
+struct random {
+    uint64_t state;
+};
+
+static uint64_t next(struct random *r)
+{
+    uint64_t z = r->state += 0x9e3779b97f4a7c15;
+    z = (z ^ z >> 30) * 0xbf58476d1ce4e5b9;
+    z = (z ^ z >> 27) * 0x94d049bb133111eb;
+    return z ^ z >> 31;
+}
+
+/* A number below `count` */
+static uint32_t below(struct random *r, uint32_t count)
+{
+    return (uint32_t)((next(r) >> 32) * count >> 32);
+}
+
+static int chance(struct random *r, uint32_t percent)
+{
+    return below(r, 100) < percent;
+}
+
+/* Traces */
+
+struct input {
+    size_t length;
+    uint32_t a, b;             /* the pair whose order is asked */
+    uint32_t left, right;      /* an unordered pair, for the two runs */
+    uint8_t *file;
+};
+
+enum family { DENSE, SPARSE, ORDERED, FAMILIES };
+static const char *const family_names[FAMILIES] = {"dense", "sparse", "ordered"};
+
+static void put(struct input *in, uint32_t worker, uint32_t kind, uint32_t number, uint32_t length)
+{
+    uint8_t *to = in->file + in->length;
+    const uint8_t record[10] = {0x50, 0x57, (uint8_t)worker, (uint8_t)kind,
+                                (uint8_t)number, (uint8_t)(number >> 8), (uint8_t)(number >> 16),
+                                (uint8_t)(number >> 24), (uint8_t)length, (uint8_t)(length >> 8)};
+    memcpy(to, record, sizeof record);
+    in->length += sizeof record;
+}
+
+static void put_access(struct random *r, struct input *in, uint32_t worker, uint32_t writes, uint32_t cells,
+                       uint32_t longest)
+{
+    put(in, worker, chance(r, writes) ? WRITE : READ, below(r, cells), 1 + below(r, longest));
+}
+
+/* Events of a trace in the making: the posted ones, so that a Wait can follow its Post in the file. */
+struct events {
+    uint32_t count;
+    uint8_t posted[MERSOHKI_MAX_OPERATIONS];
+};
+
+static void put_sync(struct random *r, struct input *in, uint32_t worker, uint32_t events, struct events *e)
+{
+    if (e->count == 0 || chance(r, 50)) {
+        uint8_t event = (uint8_t)below(r, events);
+        e->posted[e->count++] = event;
+        put(in, worker, POST, event, 0);
+    } else {
+        put(in, worker, WAIT, e->posted[below(r, e->count)], 0);
+    }
+}
+
+/* Random workers take turns. dense: 2 percent Posts and Waits of 4 events, the accesses on 9 cells, mostly Writes.
+ * sparse: 30 percent Posts and Waits of 128 events, short accesses on a million cells. */
+static void make_mixed(struct random *r, struct input *in, uint32_t n, uint32_t p, enum family family)
+{
+    struct events e = {0};
+    for (uint32_t k = 0; k < n; k++) {
+        uint32_t worker = below(r, p);
+        if (chance(r, family == DENSE ? 2 : 30))
+            put_sync(r, in, worker, family == DENSE ? 4 : 128, &e);
+        else if (family == DENSE)
+            put_access(r, in, worker, 85, 4, 6);
+        else
+            put_access(r, in, worker, 50, 1u << 20, 256);
+    }
+}
+
+/* One worker at a time has the floor: it waits for its turn, accesses cells, and posts the next turn; all turns are
+ * different events. One access in twenty is another worker's, out of turn. */
+static void make_ordered(struct random *r, struct input *in, uint32_t n, uint32_t p)
+{
+    uint32_t worker = below(r, p), turn = 0, left = 1 + below(r, 4), waits = 0;
+    for (uint32_t k = 0; k < n; k++) {
+        if (waits) {
+            put(in, worker, WAIT, turn++, 0);
+            waits = 0;
+        } else if (left == 0 && turn < 256) {
+            put(in, worker, POST, turn, 0);
+            worker = (worker + 1 + below(r, p - 1)) % p;
+            left = 1 + below(r, 4);
+            waits = 1;
+        } else {
+            put_access(r, in, chance(r, 5) ? below(r, p) : worker, 50, 16, 4);
+            left -= left != 0;
+        }
+    }
+}
+
+static void make_trace(struct random *r, struct input *in, enum family family, uint32_t n, uint32_t p)
+{
+    in->length = 0;
+    put(in, p, 0, n, 0);
+    if (family == ORDERED && p > 1)
+        make_ordered(r, in, n, p);
+    else
+        make_mixed(r, in, n, p, family);
+}
+
+/* Chooses a random pair, and an unordered one; answers 0 if none of many is unordered. */
+static int choose_pairs(struct random *r, struct input *in, uint32_t n)
+{
+    in->a = below(r, n);
+    in->b = (in->a + 1 + below(r, n - 1)) % n;
+    for (int i = 0; i < 10000; i++) {
+        in->left = below(r, n);
+        in->right = below(r, n);
+        struct mersohki_order_result order = native_pair_order(in->file, in->length, in->left, in->right);
+        if (order.number == 0 && order.sign == 0)
+            return 1;
+    }
+    return 0;
+}
+
+static struct input inputs[MOST_TRACES];
+static uint8_t files[10 * (RECORDS + MOST_TRACES)];
+
+/* Makes the traces of a cell, one behind the other: the same ones whenever it is asked for. */
+static void make_inputs(enum family family, uint32_t n, uint32_t p, uint32_t count)
+{
+    struct random r = {1000003 * (uint64_t)n + 101 * p + family};
+    for (uint32_t i = 0; i < count; i++) {
+        inputs[i].file = files + (size_t)i * 10 * (n + 1);
+        do
+            make_trace(&r, &inputs[i], family, n, p);
+        while (!choose_pairs(&r, &inputs[i], n));
+    }
+}
+
+/* The calls, all of one type */
+
+struct memory {
+    size_t table_length, first_length, second_length, output_length;
+    uint16_t table[MERSOHKI_MAX_TABLE + GUARD];
+    uint16_t first[MERSOHKI_MAX_RACES + GUARD], second[MERSOHKI_MAX_RACES + GUARD];
+    uint8_t output[MERSOHKI_MAX_FILE + GUARD];
+};
+
+struct answer {
+    uint32_t number, place, workers, operations;
+    int64_t value;
+};
+
+typedef struct answer call(const struct input *in, struct memory *m);
+
+#define DEFINE_CALLS(side)                                                                                            \
+    static struct answer side##_read_call(const struct input *in, struct memory *m)                                   \
+    {                                                                                                                 \
+        (void)m;                                                                                                      \
+        struct mersohki_accept_result r = side##_accept(in->file, in->length);                                        \
+        return (struct answer){r.number, r.place, r.workers, r.operations, 0};                                        \
+    }                                                                                                                 \
+    static struct answer side##_table_call(const struct input *in, struct memory *m)                                  \
+    {                                                                                                                 \
+        struct mersohki_table_result r = side##_order_table(in->file, in->length, m->table, m->table_length);         \
+        return (struct answer){r.number, r.place, r.workers, r.operations, 0};                                        \
+    }                                                                                                                 \
+    static struct answer side##_order_call(const struct input *in, struct memory *m)                                  \
+    {                                                                                                                 \
+        (void)m;                                                                                                      \
+        struct mersohki_order_result r = side##_pair_order(in->file, in->length, in->a, in->b);                       \
+        return (struct answer){r.number, r.place, 0, 0, r.sign};                                                      \
+    }                                                                                                                 \
+    static struct answer side##_runs_call(const struct input *in, struct memory *m)                                   \
+    {                                                                                                                 \
+        struct mersohki_runs_result r = side##_two_runs(in->file, in->length, in->left, in->right,                    \
+                                                        m->first, m->first_length, m->second, m->second_length);      \
+        return (struct answer){r.number, r.place, 0, r.operations, 0};                                                \
+    }                                                                                                                 \
+    static struct answer side##_races_call(const struct input *in, struct memory *m)                                  \
+    {                                                                                                                 \
+        struct mersohki_races_result r = side##_races(in->file, in->length, m->table, m->table_length,                \
+                                                      m->first, m->first_length, m->second, m->second_length);        \
+        return (struct answer){r.number, r.place, r.workers, r.operations, r.races};                                  \
+    }                                                                                                                 \
+    static struct answer side##_tidy_call(const struct input *in, struct memory *m)                                   \
+    {                                                                                                                 \
+        struct mersohki_canonical_result r = side##_canonical(in->file, in->length, m->output, m->output_length);     \
+        return (struct answer){r.number, r.place, 0, 0, r.size};                                                      \
+    }                                                                                                                 \
+    static call *const side##_calls[CALLS] = {side##_read_call,  side##_table_call, side##_order_call,                \
+                                              side##_runs_call, side##_races_call, side##_tidy_call};
+
+enum { READ_FILE, TABLE, PAIR_ORDER, TWO_RUNS, RACES, TIDY, CALLS };
+static const char *const call_names[CALLS] = {"read", "order table", "pair order", "two runs", "races", "tidy file"};
+
+DEFINE_CALLS(mersohki)
+DEFINE_CALLS(native)
+
+/* Comparing */
+
+static struct memory ours, theirs;
+
+static void lend(struct memory *m, size_t table, size_t first, size_t second, size_t output)
+{
+    m->table_length = table;
+    m->first_length = first;
+    m->second_length = second;
+    m->output_length = output;
+}
+
+static void fill(struct memory *m)
+{
+    memset(m->table, 0xa5, (m->table_length + GUARD) * sizeof *m->table);
+    memset(m->first, 0xa5, (m->first_length + GUARD) * sizeof *m->first);
+    memset(m->second, 0xa5, (m->second_length + GUARD) * sizeof *m->second);
+    memset(m->output, 0xa5, m->output_length + GUARD);
+}
+
+static int same_memory(const struct memory *x, const struct memory *y)
+{
+    return memcmp(x->table, y->table, (x->table_length + GUARD) * sizeof *x->table) == 0 &&
+           memcmp(x->first, y->first, (x->first_length + GUARD) * sizeof *x->first) == 0 &&
+           memcmp(x->second, y->second, (x->second_length + GUARD) * sizeof *x->second) == 0 &&
+           memcmp(x->output, y->output, x->output_length + GUARD) == 0;
+}
+
+static int same_answer(const struct answer *x, const struct answer *y)
+{
+    return x->number == y->number && x->place == y->place && x->workers == y->workers &&
+           x->operations == y->operations && x->value == y->value;
+}
+
+/* What was compared: calls, and how many of them refused with each number */
+struct tally {
+    unsigned long calls, refused[256], different;
+};
+
+static void report_difference(const struct input *in, int which, const struct answer *x, const struct answer *y)
+{
+    printf("different: %s, %zu bytes, pairs %u %u and %u %u: library %u %u %u %u %lld, native %u %u %u %u %lld\n",
+           call_names[which], in->length, in->a, in->b, in->left, in->right,
+           x->number, x->place, x->workers, x->operations, (long long)x->value,
+           y->number, y->place, y->workers, y->operations, (long long)y->value);
+    for (size_t i = 0; i < in->length && i < 10 + 10 * SMALL; i++)
+        printf("%02x%s", in->file[i], i % 10 == 9 ? "\n" : " ");
+    printf("\n");
+}
+
+static void compare_call(const struct input *in, int which, struct tally *tally)
+{
+    static uint8_t before[MERSOHKI_MAX_FILE + MORE];
+    memcpy(before, in->file, in->length);
+    fill(&ours);
+    fill(&theirs);
+    struct answer x = mersohki_calls[which](in, &ours), y = native_calls[which](in, &theirs);
+    tally->calls++;
+    tally->refused[y.number]++;
+    if (same_answer(&x, &y) && same_memory(&ours, &theirs) && memcmp(before, in->file, in->length) == 0)
+        return;
+    tally->different++;
+    if (tally->different <= 5)
+        report_difference(in, which, &x, &y);
+}
+
+/* A length to lend where `need` is enough: mostly just that or a little more, else too little, or nothing. */
+static size_t some_length(struct random *r, size_t need)
+{
+    switch (below(r, 8)) {
+    case 0:
+        return need == 0 ? 0 : need - 1;
+    case 1:
+        return below(r, (uint32_t)need + 1);
+    case 2:
+        return 0;
+    default:
+        return need + below(r, GUARD / 2) * chance(r, 50);
+    }
+}
+
+static size_t at_most(size_t length, size_t most)
+{
+    return length < most ? length : most;
+}
+
+static void lend_both(struct random *r, size_t table, size_t list, size_t output)
+{
+    size_t first = some_length(r, list), second = some_length(r, list);
+    table = at_most(some_length(r, table), MERSOHKI_MAX_TABLE);
+    first = at_most(first, MERSOHKI_MAX_RACES);
+    second = at_most(second, MERSOHKI_MAX_RACES);
+    output = at_most(some_length(r, output), MERSOHKI_MAX_FILE);
+    lend(&ours, table, first, second, output);
+    lend(&theirs, table, first, second, output);
+}
+
+/* Compares all calls on one file: with all the memory they need, or with random lengths of memory. */
+static void compare_file(struct random *r, const struct input *in, int exactly, struct tally *tally)
+{
+    lend(&theirs, MERSOHKI_MAX_TABLE, MERSOHKI_MAX_RACES, MERSOHKI_MAX_RACES, MERSOHKI_MAX_FILE);
+    struct answer whole = native_races_call(in, &theirs);
+    size_t table = (size_t)whole.operations * whole.workers;
+    for (int which = 0; which < CALLS; which++) {
+        size_t list = which == RACES ? (size_t)whole.value : whole.operations;
+        if (exactly) {
+            lend(&ours, table, list, list, in->length);
+            lend(&theirs, table, list, list, in->length);
+        } else {
+            lend_both(r, table, list, at_most(in->length, MERSOHKI_MAX_FILE));
+        }
+        compare_call(in, which, tally);
+    }
+}
+
+static void compare_families(struct tally *tally)
+{
+    struct random r = {7};
+    for (uint32_t p = 0; p < WORKER_COUNTS; p++)
+        for (int family = 0; family < FAMILIES; family++)
+            for (uint32_t i = 0; i < SIZES; i++) {
+                make_inputs(family, sizes[i], worker_counts[p], RECORDS / sizes[i]);
+                for (uint32_t j = 0; j < RECORDS / sizes[i]; j++)
+                    compare_file(&r, &inputs[j], 1, tally);
+            }
+}
+
+/* A pair for a file of n operations: mostly of the file, sometimes equal or outside */
+static void any_pair(struct random *r, uint32_t n, uint32_t *a, uint32_t *b)
+{
+    *a = chance(r, 95) ? below(r, n + 1) : (uint32_t)next(r);
+    *b = chance(r, 95) ? below(r, n + 1) : *a;
+}
+
+/* Random operations, which may be stuck */
+static void make_any(struct random *r, struct input *in, uint32_t n, uint32_t p)
+{
+    uint32_t events = 1 + below(r, 6), waits = below(r, 60);
+    in->length = 0;
+    put(in, p, 0, n, 0);
+    for (uint32_t k = 0; k < n; k++) {
+        if (chance(r, 50))
+            put(in, below(r, p), chance(r, waits) ? WAIT : POST, 255 - below(r, events), 0);
+        else if (chance(r, 5))
+            put(in, below(r, p), WRITE, UINT32_MAX - below(r, 3), 1);
+        else
+            put_access(r, in, below(r, p), 50, 30, 5);
+    }
+}
+
+/* Changes up to three bytes, preferably to small numbers, and sometimes the length. */
+static void damage(struct random *r, struct input *in)
+{
+    for (uint32_t i = 0, times = 1 + below(r, 3); i < times && in->length > 0; i++) {
+        size_t at = below(r, (uint32_t)in->length);
+        in->file[at] = (uint8_t)(chance(r, 50) ? below(r, 6) : next(r));
+    }
+    if (chance(r, 10))
+        in->length = below(r, (uint32_t)in->length + MORE + 1);
+}
+
+static void make_bytes(struct random *r, struct input *in)
+{
+    static const uint8_t mark[2] = {0x50, 0x57};
+    in->length = below(r, 50);
+    for (size_t i = 0; i < in->length; i++)
+        in->file[i] = (uint8_t)(chance(r, 60) ? below(r, 3) : next(r));
+    for (size_t i = 0; i + 1 < in->length; i += 10)
+        if (chance(r, 80))
+            memcpy(in->file + i, mark, 2);
+}
+
+static void compare_damaged(struct tally *tally)
+{
+    struct input in = {.file = files};
+    struct random r = {11};
+    for (uint32_t i = 0; i < 4 * DAMAGED; i++) {
+        uint32_t n = below(&r, SMALL + 1), p = 1 + below(&r, 16);
+        switch (i % 4) {
+        case 0:
+            make_any(&r, &in, n, p);
+            break;
+        case 1:
+            make_trace(&r, &in, below(&r, FAMILIES), n, p);
+            break;
+        case 2:
+            make_trace(&r, &in, below(&r, FAMILIES), n, p);
+            damage(&r, &in);
+            break;
+        default:
+            make_bytes(&r, &in);
+        }
+        any_pair(&r, n, &in.a, &in.b);
+        any_pair(&r, n, &in.left, &in.right);
+        compare_file(&r, &in, 0, tally);
+    }
+}
+
+/* Files of about as many records as there may be, some of them damaged */
+static void compare_large(struct tally *tally)
+{
+    struct input in = {.file = files};
+    struct random r = {13};
+    for (uint32_t i = 0; i < 60; i++) {
+        uint32_t n = MERSOHKI_MAX_OPERATIONS - 2 + below(&r, 3);
+        make_trace(&r, &in, below(&r, FAMILIES), n, 1 + below(&r, 16));
+        if (i % 3 == 0)
+            damage(&r, &in);
+        any_pair(&r, n, &in.a, &in.b);
+        any_pair(&r, n, &in.left, &in.right);
+        compare_file(&r, &in, 0, tally);
+    }
+}
+
+/* Answers whether there is no difference. */
+static int compare(void)
+{
+    struct tally tally = {0};
+    compare_damaged(&tally);
+    compare_large(&tally);
+    compare_families(&tally);
+    printf("compared    %lu calls, %lu of them different; calls refused, by number:", tally.calls, tally.different);
+    for (int i = 1; i <= 17; i++)
+        printf("%s%d: %lu", i == 1 || i == 10 ? "\n            " : ", ", i, tally.refused[i]);
+    printf("\n");
+    return tally.different == 0;
+}
+
+/* Timing */
+
+struct figures {
+    double least, median; /* microseconds per call */
+};
+
+struct cell {
+    struct figures library, native;
+    uint32_t rounds;
+};
+
+static struct cell cells[WORKER_COUNTS][CALLS][FAMILIES][SIZES];
+static double race_counts[WORKER_COUNTS][FAMILIES];
+
+static double seconds(void)
+{
+    struct timespec t;
+    clock_gettime(CLOCK_MONOTONIC, &t);
+    return (double)t.tv_sec + 1e-9 * (double)t.tv_nsec;
+}
+
+/* One pass over the traces; answers its time. A call that refuses ends the program: it would be no measurement. */
+static double pass(call *f, uint32_t count)
+{
+    uint32_t refused = 0;
+    double from = seconds();
+    for (uint32_t i = 0; i < count; i++)
+        refused |= f(&inputs[i], &ours).number;
+    double time = seconds() - from;
+    if (refused != 0) {
+        printf("a call refused while it was timed\n");
+        exit(1);
+    }
+    return time;
+}
+
+static int ascending(const void *x, const void *y)
+{
+    double a = *(const double *)x, b = *(const double *)y;
+    return (a > b) - (a < b);
+}
+
+static struct figures figures_of(double *times, uint32_t rounds, uint32_t count)
+{
+    qsort(times, rounds, sizeof *times, ascending);
+    return (struct figures){1e6 * times[0] / count, 1e6 * times[rounds / 2] / count};
+}
+
+/* Rounds of one pass of each, the library first in every other one */
+static struct cell time_cell(int which, uint32_t count)
+{
+    static double library[MOST_ROUNDS], native[MOST_ROUNDS];
+    uint32_t rounds = 0, fewest = FEWEST_ROUNDS;
+    for (double spent = 0; rounds < fewest || (spent < CELL_SECONDS && rounds < MOST_ROUNDS); rounds++) {
+        if (rounds % 2 == 0)
+            library[rounds] = pass(mersohki_calls[which], count);
+        native[rounds] = pass(native_calls[which], count);
+        if (rounds % 2 == 1)
+            library[rounds] = pass(mersohki_calls[which], count);
+        spent += library[rounds] + native[rounds];
+        if (spent > SLOW_SECONDS)
+            fewest = FEWEST_SLOW_ROUNDS;
+    }
+    return (struct cell){figures_of(library, rounds, count), figures_of(native, rounds, count), rounds};
+}
+
+static double mean_races(uint32_t count)
+{
+    double sum = 0;
+    for (uint32_t i = 0; i < count; i++)
+        sum += (double)native_races_call(&inputs[i], &theirs).value;
+    return sum / count;
+}
+
+static void time_all(void)
+{
+    lend(&ours, MERSOHKI_MAX_TABLE, MERSOHKI_MAX_RACES, MERSOHKI_MAX_RACES, MERSOHKI_MAX_FILE);
+    lend(&theirs, MERSOHKI_MAX_TABLE, MERSOHKI_MAX_RACES, MERSOHKI_MAX_RACES, MERSOHKI_MAX_FILE);
+    for (uint32_t p = 0; p < WORKER_COUNTS; p++)
+        for (int family = 0; family < FAMILIES; family++)
+            for (uint32_t i = 0; i < SIZES; i++) {
+                uint32_t count = RECORDS / sizes[i];
+                make_inputs(family, sizes[i], worker_counts[p], count);
+                for (int which = 0; which < CALLS; which++)
+                    cells[p][which][family][i] = time_cell(which, count);
+                race_counts[p][family] = mean_races(count);
+            }
+}
+
+/* Printing */
+
+static void print_line_of(const char *path, const char *key, const char *title)
+{
+    char line[256];
+    FILE *file = fopen(path, "r");
+    while (file && fgets(line, sizeof line, file)) {
+        char *colon = strchr(line, ':');
+        if (strncmp(line, key, strlen(key)) == 0) {
+            printf("%s%s", title, key[0] && colon ? colon + 2 : line);
+            break;
+        }
+    }
+    if (file)
+        fclose(file);
+}
+
+static void print_setting(void)
+{
+    uint32_t fewest = MOST_ROUNDS, most = 0;
+    const struct cell *all = &cells[0][0][0][0];
+    for (size_t i = 0; i < sizeof cells / sizeof *all; i++) {
+        fewest = all[i].rounds < fewest ? all[i].rounds : fewest;
+        most = all[i].rounds > most ? all[i].rounds : most;
+    }
+    printf("time        least of the rounds, by CLOCK_MONOTONIC around a pass over all traces, per call\n");
+    printf("rounds      a pass of the library and one of native C, in changing order; %u to %u rounds per figure,\n"
+           "            so that they take %.2f s, but at least %d, or %d where these take over %.0f s\n",
+           fewest, most, CELL_SECONDS, FEWEST_ROUNDS, FEWEST_SLOW_ROUNDS, SLOW_SECONDS);
+    printf("traces      %d / n different ones in turn, all accepted\n", RECORDS);
+    printf("buffers     the same for both sides, not cleared between calls\n");
+    for (uint32_t p = 0; p < WORKER_COUNTS; p++) {
+        printf("%s p = %-2u", p == 0 ? "races       mean at n = 1024:" : "                             ",
+               worker_counts[p]);
+        for (int family = 0; family < FAMILIES; family++)
+            printf("  %s %.0f", family_names[family], race_counts[p][family]);
+        printf("\n");
+    }
+}
+
+/* A column's title, nine wide */
+static void print_size(uint32_t n)
+{
+    char title[16];
+    snprintf(title, sizeof title, "n=%u", n);
+    printf("%9s", title);
+}
+
+static void print_ratios(uint32_t p)
+{
+    printf("\np = %u: time of the library / time of native C; at n = 1024 also microseconds, and ratio of medians\n",
+           worker_counts[p]);
+    printf("%-12s %-8s", "call", "family");
+    for (uint32_t i = 0; i < SIZES; i++)
+        print_size(sizes[i]);
+    printf("  %10s %10s %8s\n", "library us", "native us", "medians");
+    for (int which = 0; which < CALLS; which++)
+        for (int family = 0; family < FAMILIES; family++) {
+            const struct cell *row = cells[p][which][family], *last = &row[SIZES - 1];
+            printf("%-12s %-8s", call_names[which], family_names[family]);
+            for (uint32_t i = 0; i < SIZES; i++)
+                printf("%9.2f", row[i].library.least / row[i].native.least);
+            printf("  %10.2f %10.2f %8.2f\n", last->library.least, last->native.least,
+                   last->library.median / last->native.median);
+        }
+}
+
+static void print_growth(uint32_t p)
+{
+    printf("\np = %u: growth, time at n / time at n / 2\n%-21s%36s    %36s\n%-12s %-8s", worker_counts[p], "",
+           "library", "native C", "call", "family");
+    for (uint32_t i = 1; i < SIZES; i++)
+        print_size(sizes[i]);
+    printf("    ");
+    for (uint32_t i = 1; i < SIZES; i++)
+        print_size(sizes[i]);
+    printf("\n");
+    for (int which = 0; which < CALLS; which++)
+        for (int family = 0; family < FAMILIES; family++) {
+            const struct cell *row = cells[p][which][family];
+            printf("%-12s %-8s", call_names[which], family_names[family]);
+            for (uint32_t i = 1; i < SIZES; i++)
+                printf("%9.2f", row[i].library.least / row[i - 1].library.least);
+            printf("    ");
+            for (uint32_t i = 1; i < SIZES; i++)
+                printf("%9.2f", row[i].native.least / row[i - 1].native.least);
+            printf("\n");
+        }
+}
+
+static void print_all(void)
+{
+    print_setting();
+    for (uint32_t p = 0; p < WORKER_COUNTS; p++)
+        print_ratios(p);
+    for (uint32_t p = 0; p < WORKER_COUNTS; p++)
+        print_growth(p);
+}
+
+/* Instructions are counted in here: bench/instructions names this function. */
+void counted_pass(uint32_t count);
+
+void counted_pass(uint32_t count)
+{
+    for (int which = 0; which < CALLS; which++) {
+        pass(mersohki_calls[which], count);
+        pass(native_calls[which], count);
+    }
+}
+
+static int run_pass(const char *name, const char *workers, const char *traces)
+{
+    long p = strtol(workers, NULL, 10), count = strtol(traces, NULL, 10);
+    int family = 0;
+    while (family < FAMILIES && strcmp(name, family_names[family]) != 0)
+        family++;
+    if (family == FAMILIES || p < 2 || p > MERSOHKI_MAX_WORKERS || count < 1 || count > MOST_TRACES)
+        return 2;
+    lend(&ours, MERSOHKI_MAX_TABLE, MERSOHKI_MAX_RACES, MERSOHKI_MAX_RACES, MERSOHKI_MAX_FILE);
+    make_inputs(family, MERSOHKI_MAX_OPERATIONS, (uint32_t)p, (uint32_t)count);
+    counted_pass((uint32_t)count);
+    return 0;
+}
+
+int main(int argc, char **argv)
+{
+    if (argc == 5 && strcmp(argv[1], "--pass") == 0)
+        return run_pass(argv[2], argv[3], argv[4]);
+    if (argc == 2 && strcmp(argv[1], "--compare") == 0)
+        return compare() ? 0 : 1;
+    if (argc != 1) {
+        fprintf(stderr, "usage: bench [--compare | --pass FAMILY P TRACES]\n");
+        return 2;
+    }
+    printf("compiler    %s, %s\n", __VERSION__, BENCH_FLAGS);
+    print_line_of("/proc/cpuinfo", "model name", "processor   ");
+    print_line_of("/proc/loadavg", "", "load        ");
+    fflush(stdout);
+    if (!compare())
+        return 1;
+    fflush(stdout);
+    time_all();
+    print_all();
+    return 0;
+}

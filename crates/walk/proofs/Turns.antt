@@ -1,0 +1,486 @@
+-- A worker's turn. In order: the place where it stops; an operation that passes; while the workers below q are blocked,
+-- the step is worker q's; it goes on alone; the Post that ends its turn; the end of its turn without one.
+use mathlib.Core.Bool.{Bool, true, false, _||_, cond}
+use mathlib.Core.List.{List, [], _∷_, _++_, append-assoc}
+use mathlib.Core.Logic.{_⊎_, inl, inr, _≢_}
+use mathlib.Core.Path.{_≡_, refl, sym, ap, _∙_}
+use native.Mathlib.Nat.{add-zero, zero-add, sub-zero}
+use native.Mathlib.Numerals.{add-one}
+use native.Mathlib.Omega.{arith}
+use Prim.Native.Nat.{ℕ, zero, suc, _+_, _-_, _*_, _<_, _≤_, min, max}
+use lib.Dec.{eqb}
+use lib.ListN.{length, getD, set, take, drop, length-set, length-drop}
+use lib.Seq.{getD-set-same, getD-set-other, set-set, set-getD, take-suc, getD-drop}
+use borrow.Author.Tests.{eqb-true, lt-ltb, le-ltb}
+use Rattle.runs.proofs.Booleans.{equal?, less?, zero-one}
+use Rattle.trace.specs.Reading.{traceOf}
+use Rattle.trace.specs.Trace.{Trace, size, operation, workerOf, isPost, isWait, isSync}
+use Rattle.index.proofs.Lookups.{part-start, places-inside, place-operation, part-rth}
+use Rattle.walk.specs.declared.Walk.{Walk}
+use Rattle.walk.specs.Events.{isPosted, withPost}
+use Rattle.walk.specs.Turns.{passes, Listed, Stop, postsAt, EventAt, Due, Turned}
+use Rattle.walk.specs.Walks.{Fits, Walkable, Placed, stateOf, nextOf, mayRun, move, added, walkFrom, runFrom}
+use Rattle.walk.proofs.EventBits.{posted-again, event-below, trace-fits}
+use Rattle.walk.proofs.Moves.{Moved, move-some, move-none, walk-zero, walk-stop, walk-step}
+use Rattle.walk.proofs.Moves.{run-zero, run-stop, run-step}
+use Rattle.walk.proofs.NextOperations.{next-rth, next-found, next-past}
+
+-- ---- the place where it stops
+
+-- all operations from place `from` on, below `at`, pass
+pub record PassedTo (t : Trace) (a : ℕ) (events order : List ℕ) (from end at : ℕ) : Type 0 where
+  pub from-on : from ≤ at
+  pub up-to : at ≤ max from end
+  pub each : (i : ℕ) → from ≤ i → i < at → passes t a events (getD order i 0) ≡ true
+
+pub passed-start : (t : Trace) (a : ℕ) (events order : List ℕ) (from end : ℕ)
+    → PassedTo t a events order from end from
+passed-start t a events order from end =
+    record { from-on = omega arith; up-to = omega arith; each = λ i h l. absurd (omega arith) }
+
+module _ {t : Trace} {a : ℕ} {events order : List ℕ} {from end at : ℕ} (s : PassedTo t a events order from end at) where
+  pub passed-more : at < end → passes t a events (getD order at 0) ≡ true
+      → PassedTo t a events order from end (at + 1)
+  passed-more l e = record { from-on = omega (arith, s .from-on); up-to = omega (arith, s .from-on); each = each }
+    where
+      each : (i : ℕ) → from ≤ i → i < at + 1 → passes t a events (getD order i 0) ≡ true
+      each i h k = elim (equal? i at) [ inl z ↦ rw z e | inr d ↦ s .each i h (omega (arith, d)) ]
+
+  pub passed-stop : passes t a events (getD order at 0) ≡ false → Stop t a events order from end at
+  passed-stop e = record { from-on = s .from-on; up-to = s .up-to; before = s .each; stops = λ l. e }
+
+  pub passed-end : end ≤ at → Stop t a events order from end at
+  passed-end h =
+      record { from-on = s .from-on; up-to = s .up-to; before = s .each; stops = λ l. absurd (omega (arith, l)) }
+
+-- ---- an operation that passes
+
+-- the code's nest of tests: left out, a Post, a Wait, posted
+nest-may : (x y z u : Bool) → cond x false (cond (y || z) u true) ≡ true → cond x false (cond z u true) ≡ true
+nest-may true y z u e = e
+nest-may false y false u e = refl
+nest-may false true true u e = e
+nest-may false false true u e = e
+
+nest-posted : (x y z u : Bool) → y ≡ true → cond x false (cond (y || z) u true) ≡ true → u ≡ true
+nest-posted true y z u i e = absurd (zero-one cc)
+nest-posted false true z u i e = e
+nest-posted false false z u i e = absurd (zero-one cc)
+
+nest-blocked : (x y z u : Bool) → cond x false (cond (y || z) u true) ≡ false → cond x false y ≡ false
+    → cond x false (cond z u true) ≡ false
+nest-blocked true y z u e i = refl
+nest-blocked false true z u e i = absurd (zero-one cc)
+nest-blocked false false false u e i = e
+nest-blocked false false true u e i = e
+
+module _ (t : Trace) (a : ℕ) (events : List ℕ) (k : ℕ) (l : k < size t) where
+  -- it may run
+  pub passes-may : passes t a events k ≡ true → mayRun t a events k ≡ true
+  unfolding passes mayRun isSync
+  passes-may e =
+      let o = operation t k in
+      rw (lt-ltb k (size t) l)
+      (nest-may (eqb k a) (isPost (o .kind)) (isWait (o .kind)) (isPosted events (o .number)) e)
+
+  -- and changes no event
+  pub passes-keeps : passes t a events k ≡ true
+      → cond (isPost (operation t k .kind)) (withPost events (operation t k .number)) events ≡ events
+  unfolding passes isSync
+  passes-keeps e = go (isPost (operation t k .kind)) refl
+    where
+      go : (b : Bool) → isPost (operation t k .kind) ≡ b → cond b (withPost events (operation t k .number)) events ≡ events
+      go true i = posted-again events (operation t k .number) (nest-posted (eqb k a) _ _ _ i e)
+      go false i = refl
+
+  -- one that does not, and is no Post, may not run
+  pub stops-blocked : passes t a events k ≡ false → cond (eqb k a) false (isPost (operation t k .kind)) ≡ false
+      → mayRun t a events k ≡ false
+  unfolding passes mayRun isSync
+  stops-blocked e i =
+      let o = operation t k in
+      rw (lt-ltb k (size t) l)
+      (nest-blocked (eqb k a) (isPost (o .kind)) (isWait (o .kind)) (isPosted events (o .number)) e i)
+
+  -- a Post that is not left out may run
+  pub post-may : cond (eqb k a) false (isPost (operation t k .kind)) ≡ true
+      → (isPost (operation t k .kind) ≡ true) × (mayRun t a events k ≡ true)
+  unfolding mayRun
+  post-may e = rw (lt-ltb k (size t) l) (go (eqb k a) (operation t k .kind) e)
+    where
+      go : (x : Bool) (kind : ℕ) → cond x false (isPost kind) ≡ true
+          → (isPost kind ≡ true) × (cond x false (cond (isWait kind) (isPosted events (operation t k .number)) true) ≡ true)
+      go true kind i = absurd (zero-one cc)
+      go false kind i = let one = eqb-true kind 1 i in (i, rw one)
+
+-- a number that no operation has may not run
+none-may : (t : Trace) (a : ℕ) (events : List ℕ) → mayRun t a events (size t) ≡ false
+unfolding mayRun
+none-may t a events = rw (le-ltb (size t) (size t) (omega arith))
+
+-- ---- while the workers below q are blocked, the step is worker q's
+
+module _ {t : Trace} {a left : ℕ} {w : Walk} {q : ℕ} (d : Due t a left w q) (some : 0 < left) where
+  pub due-move : q < t .workers → mayRun t a (w .events) (nextOf t w q) ≡ true → move t a w ≡ nextOf t w q
+  due-move l may = elim (less? (move t a w) (size t)) [
+    | inl h ↦ found (move-some t a w h)
+    | inr h ↦ let none = move-none t a w h q l in absurd (zero-one cc)
+  ]
+    where
+      found : Moved t a w → move t a w ≡ nextOf t w q
+      found m = elim (less? (m .worker) q) [
+        | inl h ↦ let none = d .below some (m .worker) h in let can = m .may in absurd (zero-one cc)
+        | inr h ↦ let same : m .worker ≡ q = omega (arith, m .lowest q may) in m .is ∙ ap (λ (r : ℕ). nextOf t w r) same
+      ]
+
+  -- where all are, no step is left
+  pub due-none : t .workers ≤ q → size t ≤ move t a w
+  due-none l = elim (less? (move t a w) (size t)) [ inl h ↦ absurd (found (move-some t a w h)) | inr h ↦ h ]
+    where
+      found : Moved t a w → ⊥
+      found m =
+          let none = d .below some (m .worker) (omega (arith, m .below)) in
+          let can = m .may in
+          zero-one cc
+
+-- the first turn is worker 0's
+pub due-first : (t : Trace) (a left : ℕ) (w : Walk) → Due t a left w 0
+due-first t a left w = record { below = λ s r h. absurd (omega (arith, h)) }
+
+-- after the last one, the walk is at its end
+pub due-end : {t : Trace} {a : ℕ} (left : ℕ) {w : Walk} {q : ℕ} → Due t a left w q → t .workers ≤ q
+    → (walkFrom t a w left ≡ w) × (runFrom t a w left ≡ [])
+due-end {t} {a} zero {w} d l = (walk-zero t a w, run-zero t a w)
+due-end {t} {a} (suc left) {w} d l =
+    let none = due-none d (omega arith) l in
+    (walk-stop t a w (suc left) none, run-stop t a w (suc left) none)
+
+-- ---- it goes on alone
+
+-- the state when worker q has done m operations more
+abbrev pub ahead : Walk → ℕ → ℕ → Walk
+ahead w q m = stateOf (set (w .done) q (getD (w .done) q 0 + m)) (w .events)
+
+module _ (t : Trace) (w : Walk) (q : ℕ) (wide : q < length (w .done)) where
+  ahead-own : (m : ℕ) → getD (ahead w q m .done) q 0 ≡ getD (w .done) q 0 + m
+  ahead-own m = getD-set-same (w .done) q (getD (w .done) q 0 + m) 0 wide
+
+  -- the next operations of the others are the same
+  ahead-other : (m r : ℕ) → r ≢ q → nextOf t (ahead w q m) r ≡ nextOf t w r
+  unfolding nextOf
+  ahead-other m r d = rw (getD-set-other (w .done) q r (getD (w .done) q 0 + m) 0 d)
+
+  -- its next operation, added
+  ahead-added : (m k : ℕ) → workerOf t k ≡ q → {events : List ℕ}
+      → cond (isPost (operation t k .kind)) (withPost (w .events) (operation t k .number)) (w .events) ≡ events
+      → added t (ahead w q m) k ≡ stateOf (set (w .done) q (getD (w .done) q 0 + suc m)) events
+  unfolding added
+  ahead-added m k own e =
+      rw (own, e, ahead-own m, set-set (w .done) q (getD (w .done) q 0 + m) (getD (w .done) q 0 + m + 1), more)
+    where
+      more : getD (w .done) q 0 + m + 1 ≡ getD (w .done) q 0 + suc m
+      more = omega arith
+
+ahead-none : (w : Walk) (q : ℕ) → ahead w q 0 ≡ w
+ahead-none w q = rw (add-zero, set-getD (w .done) q 0)
+
+-- m operations of worker q are taken, which stand in the order from place `from` on
+record Gone (t : Trace) (a left : ℕ) (order : List ℕ) (from : ℕ) (w : Walk) (q m : ℕ) : Type 0 where
+  walks : (s : ℕ) → walkFrom t a w (m + s) ≡ walkFrom t a (ahead w q m) s
+  adds : (s : ℕ) → runFrom t a w (m + s) ≡ take m (drop from order) ++ runFrom t a (ahead w q m) s
+  due : Due t a (left - m) (ahead w q m) q
+
+gone-none : {t : Trace} {a left : ℕ} {w : Walk} {q : ℕ} → Due t a left w q → (order : List ℕ) (from : ℕ)
+    → Gone t a left order from w q 0
+gone-none {t} {a} {left} {w} {q} d order from =
+    record {
+      walks = λ s. rw (zero-add, ahead-none w q);
+      adds = λ s. rw (zero-add, ahead-none w q);
+      due = rw (sub-zero, ahead-none w q) d;
+    }
+
+module _ {t : Trace} {a left : ℕ} {order : List ℕ} {from : ℕ} {w : Walk} {q m : ℕ} (wide : q < length (w .done))
+    (g : Gone t a left order from w q m) (some : m < left) (hq : q < t .workers) {k : ℕ}
+    (e : nextOf t (ahead w q m) q ≡ k) (l : k < size t) (at : getD order (from + m) 0 ≡ k)
+    (inside : from + m < length order) (may : mayRun t a (w .events) k ≡ true) {events : List ℕ}
+    (now : cond (isPost (operation t k .kind)) (withPost (w .events) (operation t k .number)) (w .events) ≡ events) where
+  abbrev after : Walk
+  after = stateOf (set (w .done) q (getD (w .done) q 0 + suc m)) events
+
+  own : workerOf t k ≡ q
+  own = rw (← e) (next-rth t (ahead w q m) q (rw e l) .own)
+
+  moved : move t a (ahead w q m) ≡ k
+  moved = due-move (g .due) (omega arith) hq (rw e may) ∙ e
+
+  step : added t (ahead w q m) (move t a (ahead w q m)) ≡ after
+  step = rw moved (ahead-added t w q wide m k own now)
+
+  -- one operation more
+  gone-walks : (s : ℕ) → walkFrom t a w (suc m + s) ≡ walkFrom t a after s
+  gone-walks s =
+      let later : suc m + s ≡ m + suc s = omega arith in
+      rw later (g .walks (suc s) ∙ walk-step t a (ahead w q m) s (rw moved l) ∙ rw step)
+
+  gone-adds : (s : ℕ) → runFrom t a w (suc m + s) ≡ take (suc m) (drop from order) ++ runFrom t a after s
+  gone-adds s =
+      let later : suc m + s ≡ m + suc s = omega arith in
+      let last : take (suc m) (drop from order) ≡ take m (drop from order) ++ k ∷ []
+      = take-suc (drop from order) m 0 (simp length-drop (omega (arith, inside))) ∙ rw (getD-drop from order m 0, at) in
+      rw (later, last, append-assoc) (g .adds (suc s) ∙ rw (run-step t a (ahead w q m) s (rw moved l), step, moved))
+
+-- what the code asks of the file
+module _ {bytes order starts : List ℕ} (x : Placed bytes order starts) {q : ℕ} (hq : q < traceOf bytes .workers) where
+  -- the end of worker q's part
+  part-few : getD starts (q + 1) 0 ≤ size (traceOf bytes)
+  part-few = part-start (x .holds) (x .indexed) (q + 1) (omega (arith, x .holds .most))
+
+  pub turn-listed : {end : ℕ} → end ≤ getD starts (q + 1) 0 → Fits (traceOf bytes) × Listed (traceOf bytes) order end
+  turn-listed {end} l = (trace-fits (x .holds), record { inside = inside; each = each })
+    where
+      inside : end ≤ 1024
+      inside = omega (arith, l, part-few, x .holds .few)
+
+      each : (i : ℕ) → i < end → getD order i 0 < size (traceOf bytes)
+      each i h = place-operation (x .holds) (x .indexed) i (omega (arith, h, l, part-few))
+
+  pub turn-event : (a : ℕ) {end at : ℕ} → end ≤ getD starts (q + 1) 0 → postsAt (traceOf bytes) order a end at ≡ true → EventAt (traceOf bytes) order at
+  unfolding postsAt
+  turn-event a {end} {at} l h = go (less? at end)
+    where
+      k : ℕ
+      k = getD order at 0
+
+      go : (at < end) ⊎ (end ≤ at) → EventAt (traceOf bytes) order at
+      go (inr i) = absurd (zero-one (let none = le-ltb at end i in cc))
+      go (inl i) =
+          let f = turn-listed l in
+          let below = f .1 .each at i in
+          let post = post-may (traceOf bytes) a [] k below (rw (lt-ltb at end i) at h) .0 in
+          let one = eqb-true (operation (traceOf bytes) k .kind) 1 post in
+          record {
+            inside = omega (arith, i, f .1 .inside);
+            below = below;
+            event = event-below (f .0) below refl (omega (arith, one)) (omega (arith, one));
+          }
+
+-- the operation with m before it in worker q's turn
+module _ {bytes order starts : List ℕ} (x : Placed bytes order starts) {q : ℕ} (hq : q < traceOf bytes .workers)
+    (done events : List ℕ) (size-is : length done ≡ 16) where
+  abbrev t : Trace
+  t = traceOf bytes
+
+  abbrev w : Walk
+  w = stateOf done events
+
+  -- where it starts, and the end of worker q's part
+  abbrev from : ℕ
+  from = getD starts q 0 + getD done q 0
+
+  abbrev last : ℕ
+  last = getD starts (q + 1) 0
+
+  few : q < length done
+  few = omega (arith, size-is, x .holds .most)
+
+  next-in : (m : ℕ) → from + m < last → nextOf t (ahead w q m) q ≡ getD order (from + m) 0
+  next-in m l =
+      let same : getD starts q 0 + (getD done q 0 + m) ≡ from + m = omega arith in
+      sym (rw same at (next-found x hq (ahead w q m) refl (sym (ahead-own t w q few m)) refl (omega (arith, l))))
+
+  next-out : (m : ℕ) → last ≤ from + m → nextOf t (ahead w q m) q ≡ size t
+  next-out m l = sym (next-past x hq (ahead w q m) refl (sym (ahead-own t w q few m)) refl (omega (arith, l)))
+
+  place-below : (m : ℕ) → from + m < last → getD order (from + m) 0 < size t
+  place-below m l =
+      let same : getD starts q 0 + (getD done q 0 + m) ≡ from + m = omega arith in
+      rw same at (part-rth (x .holds) (x .indexed) q (getD done q 0 + m) hq (omega (arith, l)) .1 .below)
+
+  places : size t ≤ length order
+  places = places-inside (x .holds) (x .indexed)
+
+  module _ {a left : ℕ} (d : Due t a left w q) where
+    gone-next : (m : ℕ) → m < left → from + m < last → passes t a events (getD order (from + m) 0) ≡ true
+        → Gone t a left order from w q m → Gone t a left order from w q (suc m)
+    gone-next m h lower pass g = record { walks = walks; adds = adds; due = record { below = below } }
+      where
+        k : ℕ
+        k = getD order (from + m) 0
+
+        keeps : cond (isPost (operation t k .kind)) (withPost events (operation t k .number)) events ≡ events
+        keeps = passes-keeps t a events k (place-below m lower) pass
+
+        may : mayRun t a events k ≡ true
+        may = passes-may t a events k (place-below m lower) pass
+
+        inside : from + m < length order
+        inside = omega (arith, lower, part-few x hq, places)
+
+        walks : (s : ℕ) → walkFrom t a w (suc m + s) ≡ walkFrom t a (ahead w q (suc m)) s
+        walks = gone-walks few g h hq (next-in m lower) (place-below m lower) refl inside may keeps
+
+        adds : (s : ℕ) → runFrom t a w (suc m + s) ≡ take (suc m) (drop from order) ++ runFrom t a (ahead w q (suc m)) s
+        adds = gone-adds few g h hq (next-in m lower) (place-below m lower) refl inside may keeps
+
+        below : 0 < left - suc m → (r : ℕ) → r < q → mayRun t a events (nextOf t (ahead w q (suc m)) r) ≡ false
+        below s r j = rw (ahead-other t w q few (suc m) r (λ z. omega (arith, z))) (d .below (omega (arith, s)) r j)
+
+    gone : (m : ℕ) → m ≤ left → from + m ≤ max from last
+        → ((i : ℕ) → i < m → passes t a events (getD order (from + i) 0) ≡ true) → Gone t a left order from w q m
+    gone zero h l f = gone-none d order from
+    gone (suc m) h l f =
+        gone-next m h (omega (arith, l)) (f m (omega arith))
+        (gone m (omega (arith, h)) (omega (arith, l)) (λ i j. f i (omega (arith, j))))
+
+    -- ---- the end of the turn: at place `at`, of at most `left` operations
+
+    module _ {end at : ℕ} (e : end ≡ min last (from + left)) (s : Stop t a events order from end at) where
+      abbrev m : ℕ
+      m = at - from
+
+      at-is : from + m ≡ at
+      at-is = omega (arith, s .from-on)
+
+      few-steps : m ≤ left
+      few-steps = omega (arith, e, s .up-to, s .from-on)
+
+      up : Gone t a left order from w q m
+      up = gone m few-steps (omega (arith, e, s .up-to, s .from-on)) (λ i j. s .before (from + i) (omega arith)
+          (omega (arith, j)))
+
+      in-part : at < end → from + m < last
+      in-part l = omega (arith, e, l, s .from-on)
+
+      -- the operation there
+      abbrev k : ℕ
+      k = getD order at 0
+
+      there : at < end → k < size t
+      there l = rw at-is at (place-below m (in-part l))
+
+      next-there : at < end → nextOf t (ahead w q m) q ≡ k
+      next-there l = rw at-is at (next-in m (in-part l))
+
+      -- a Post that is not left out is taken, and then it is worker 0's turn
+      pub turned-post : postsAt t order a end at ≡ true → {done′ events′ : List ℕ}
+          → events′ ≡ withPost events (operation t k .number)
+          → done′ ≡ set done q (getD done q 0 + (at + 1 - from))
+          → Turned t a left order from w q (stateOf done′ events′) 0
+      unfolding postsAt
+      turned-post h {done′} {events′} i j = go (less? at end)
+        where
+          go : (at < end) ⊎ (end ≤ at) → Turned t a left order from w q (stateOf done′ events′) 0
+          go (inr l) = absurd (zero-one (let none = le-ltb at end l in cc))
+          go (inl l) =
+              record {
+                taken = suc m;
+                few = some;
+                inside = λ z. omega (arith, in-part l, part-few x hq);
+                counters = rw j (length-set done q _);
+                count = rw (j, more) (getD-set-same done q (getD done q 0 + suc m) 0 few);
+                walks = rw (i, j, more) (gone-walks few up some hq (next-there l) (there l) at-k inside may-run now);
+                adds = rw (i, j, more) (gone-adds few up some hq (next-there l) (there l) at-k inside may-run now);
+                due = due-first t a (left - suc m) (stateOf done′ events′);
+                on = inr (refl, omega arith);
+              }
+            where
+              some : m < left
+              some = omega (arith, e, l, s .from-on)
+
+              more : at + 1 - from ≡ suc m
+              more = omega (arith, s .from-on)
+
+              inside : from + m < length order
+              inside = omega (arith, in-part l, part-few x hq, places)
+
+              at-k : getD order (from + m) 0 ≡ k
+              at-k = rw at-is
+
+              may : (isPost (operation t k .kind) ≡ true) × (mayRun t a events k ≡ true)
+              may = post-may t a events k (there l) (rw (lt-ltb at end l) at h)
+
+              may-run : mayRun t a events k ≡ true
+              may-run = may .1
+
+              now : cond (isPost (operation t k .kind)) (withPost events (operation t k .number)) events
+                  ≡ withPost events (operation t k .number)
+              now = rw (may .0)
+
+      -- otherwise it is the next worker's turn
+      pub turned-on : postsAt t order a end at ≡ false → {done′ : List ℕ} → done′ ≡ set done q (getD done q 0 + m)
+          → Turned t a left order from w q (stateOf done′ events) (q + 1)
+      unfolding postsAt
+      turned-on h {done′} j =
+          rw j (record {
+            taken = m;
+            few = few-steps;
+            inside = λ z. omega (arith, z, e, s .up-to, s .from-on, part-few x hq);
+            counters = length-set done q (getD done q 0 + m);
+            count = getD-set-same done q (getD done q 0 + m) 0 few;
+            walks = up .walks;
+            adds = up .adds;
+            due = record { below = below };
+            on = inl refl;
+          })
+        where
+          blocked : 0 < left - m → (at < end) ⊎ (end ≤ at) → mayRun t a events (nextOf t (ahead w q m) q) ≡ false
+          blocked z (inl l) =
+              rw (next-there l)
+              (stops-blocked t a events k (there l) (s .stops l) (rw (lt-ltb at end l) at h))
+          blocked z (inr l) =
+              let out : last ≤ from + m = omega (arith, z, l, e, s .up-to, s .from-on) in
+              rw (next-out m out) (none-may t a events)
+
+          below : 0 < left - m → (r : ℕ) → r < q + 1 → mayRun t a events (nextOf t (ahead w q m) r) ≡ false
+          below z r l = elim (equal? r q) [
+            | inl i ↦ rw i (blocked z (less? at end))
+            | inr i ↦ up .due .below z r (omega (arith, l, i))
+          ]
+
+-- ---- turn by turn
+
+-- the walk from `start`, of n steps, is at w: `left` steps are left, and it is worker q's turn
+pub record OnTheWay (t : Trace) (a : ℕ) (start : Walk) (n : ℕ) (w : Walk) (left q : ℕ) : Type 0 where
+  pub counters : length (w .done) ≡ 16
+  pub walks : walkFrom t a start n ≡ walkFrom t a w left
+  pub due : Due t a left w q
+
+pub way-start : (t : Trace) (a : ℕ) {start : Walk} (n : ℕ) → length (start .done) ≡ 16 → OnTheWay t a start n start n 0
+way-start t a {start} n l = record { counters = l; walks = refl; due = due-first t a n start }
+
+module _ {t : Trace} {a : ℕ} {start : Walk} {n : ℕ} {w : Walk} {left q : ℕ} (s : OnTheWay t a start n w left q)
+    {order : List ℕ} {from : ℕ} {w′ : Walk} {q′ : ℕ} (u : Turned t a left order from w q w′ q′) where
+  -- how many steps the turn took, by the counts
+  pub way-few : getD (w′ .done) q 0 - getD (w .done) q 0 ≤ left
+  way-few = omega (arith, u .count, u .few)
+
+  pub way-turn : OnTheWay t a start n w′ (left - (getD (w′ .done) q 0 - getD (w .done) q 0)) q′
+  way-turn = rw steps (record { counters = u .counters ∙ s .counters; walks = walks; due = u .due })
+    where
+      steps : left - (getD (w′ .done) q 0 - getD (w .done) q 0) ≡ left - u .taken
+      steps = omega (arith, u .count)
+
+      walks : walkFrom t a start n ≡ walkFrom t a w′ (left - u .taken)
+      walks =
+          let all : left ≡ u .taken + (left - u .taken) = omega (arith, u .few) in
+          s .walks ∙ ap (walkFrom t a w) all ∙ u .walks (left - u .taken)
+
+  -- each turn takes a step, or is followed by the next worker's
+  pub way-less : {p : ℕ} → p ≤ 16 → q < p
+      → (left - (getD (w′ .done) q 0 - getD (w .done) q 0)) * 17 + (p - q′) < left * 17 + (p - q)
+  way-less h l = elim (u .on) [
+    | inl e ↦ omega (arith, e, u .count, u .few)
+    | inr e ↦ omega (arith, e .0, e .1, u .count, u .few)
+  ]
+
+pub way-end : {t : Trace} {a : ℕ} {start : Walk} {n : ℕ} {w : Walk} {left q : ℕ} → OnTheWay t a start n w left q
+    → t .workers ≤ q → w ≡ walkFrom t a start n
+way-end {left = left} s l = sym (s .walks ∙ due-end left (s .due) l .0)
+
+-- what a turn asks of the file
+pub way-asks : {bytes : List ℕ} {p n : ℕ} {order starts : List ℕ} → Walkable bytes p n order starts
+    → {a : ℕ} {start : Walk} {m : ℕ} {w : Walk} {left q : ℕ} → OnTheWay (traceOf bytes) a start m w left q → q < p
+    → Placed bytes order starts × (q < traceOf bytes .workers) × (length (w .done) ≡ 16)
+    × Due (traceOf bytes) a left w q
+way-asks x s l =
+    (rw (x .holds .workers, x .holds .count) x, rw (x .holds .workers) l, s .counters, s .due)
