@@ -20,6 +20,12 @@
 #define BENCH_FLAGS "not said"
 #endif
 
+#ifdef __clang__
+#define COMPILER __VERSION__
+#else
+#define COMPILER "gcc " __VERSION__
+#endif
+
 enum {
     POST = 1, WAIT = 2, READ = 3, WRITE = 4,
     RECORDS = 65536,       /* of all traces of a cell: so there are RECORDS / n of them */
@@ -480,8 +486,10 @@ struct figures {
 };
 
 struct cell {
-    struct figures library, native;
     uint32_t rounds;
+    int slow;
+    double library_times[MOST_ROUNDS], native_times[MOST_ROUNDS]; /* of a pass, in no order */
+    struct figures library, native;
 };
 
 static struct cell cells[WORKER_COUNTS][CALLS][FAMILIES][SIZES];
@@ -521,22 +529,25 @@ static struct figures figures_of(double *times, uint32_t rounds, uint32_t count)
     return (struct figures){1e6 * times[0] / count, 1e6 * times[rounds / 2] / count};
 }
 
-/* Rounds of one pass of each, the library first in every other one */
-static struct cell time_cell(int which, uint32_t count)
+/* More rounds of one pass of each, the library first in every other one. A slow cell gets no second visit. */
+static void time_cell(struct cell *cell, int which, uint32_t count)
 {
-    static double library[MOST_ROUNDS], native[MOST_ROUNDS];
-    uint32_t rounds = 0, fewest = FEWEST_ROUNDS;
-    for (double spent = 0; rounds < fewest || (spent < CELL_SECONDS && rounds < MOST_ROUNDS); rounds++) {
-        if (rounds % 2 == 0)
-            library[rounds] = pass(mersohki_calls[which], count);
-        native[rounds] = pass(native_calls[which], count);
-        if (rounds % 2 == 1)
-            library[rounds] = pass(mersohki_calls[which], count);
-        spent += library[rounds] + native[rounds];
-        if (spent > SLOW_SECONDS)
+    uint32_t fewest = cell->slow ? 0 : cell->rounds + FEWEST_ROUNDS;
+    for (double spent = cell->slow ? SLOW_SECONDS : 0;
+         cell->rounds < fewest || (spent < CELL_SECONDS && cell->rounds < MOST_ROUNDS); cell->rounds++) {
+        uint32_t i = cell->rounds;
+        if (i % 2 == 0)
+            cell->library_times[i] = pass(mersohki_calls[which], count);
+        cell->native_times[i] = pass(native_calls[which], count);
+        if (i % 2 == 1)
+            cell->library_times[i] = pass(mersohki_calls[which], count);
+        spent += cell->library_times[i] + cell->native_times[i];
+        cell->slow = spent > SLOW_SECONDS;
+        if (cell->slow)
             fewest = FEWEST_SLOW_ROUNDS;
     }
-    return (struct cell){figures_of(library, rounds, count), figures_of(native, rounds, count), rounds};
+    cell->library = figures_of(cell->library_times, cell->rounds, count);
+    cell->native = figures_of(cell->native_times, cell->rounds, count);
 }
 
 static double mean_races(uint32_t count)
@@ -547,19 +558,26 @@ static double mean_races(uint32_t count)
     return sum / count;
 }
 
-static void time_all(void)
+static void visit_cells(void)
 {
-    lend(&ours, MERSOHKI_MAX_TABLE, MERSOHKI_MAX_RACES, MERSOHKI_MAX_RACES, MERSOHKI_MAX_FILE);
-    lend(&theirs, MERSOHKI_MAX_TABLE, MERSOHKI_MAX_RACES, MERSOHKI_MAX_RACES, MERSOHKI_MAX_FILE);
     for (uint32_t p = 0; p < WORKER_COUNTS; p++)
         for (int family = 0; family < FAMILIES; family++)
             for (uint32_t i = 0; i < SIZES; i++) {
                 uint32_t count = RECORDS / sizes[i];
                 make_inputs(family, sizes[i], worker_counts[p], count);
                 for (int which = 0; which < CALLS; which++)
-                    cells[p][which][family][i] = time_cell(which, count);
+                    time_cell(&cells[p][which][family][i], which, count);
                 race_counts[p][family] = mean_races(count);
             }
+}
+
+/* Every cell is visited twice, minutes or seconds apart, against disturbances that last longer than a visit. */
+static void time_all(void)
+{
+    lend(&ours, MERSOHKI_MAX_TABLE, MERSOHKI_MAX_RACES, MERSOHKI_MAX_RACES, MERSOHKI_MAX_FILE);
+    lend(&theirs, MERSOHKI_MAX_TABLE, MERSOHKI_MAX_RACES, MERSOHKI_MAX_RACES, MERSOHKI_MAX_FILE);
+    visit_cells();
+    visit_cells();
 }
 
 /* Printing */
@@ -587,9 +605,10 @@ static void print_setting(void)
         fewest = all[i].rounds < fewest ? all[i].rounds : fewest;
         most = all[i].rounds > most ? all[i].rounds : most;
     }
+    print_line_of("/proc/loadavg", "", "load after  ");
     printf("time        least of the rounds, by CLOCK_MONOTONIC around a pass over all traces, per call\n");
     printf("rounds      a pass of the library and one of native C, in changing order; %u to %u rounds per figure,\n"
-           "            so that they take %.2f s, but at least %d, or %d where these take over %.0f s\n",
+           "            twice %.2f s long, but at least twice %d rounds; once %d where that takes over %.0f s\n",
            fewest, most, CELL_SECONDS, FEWEST_ROUNDS, FEWEST_SLOW_ROUNDS, SLOW_SECONDS);
     printf("traces      %d / n different ones in turn, all accepted\n", RECORDS);
     printf("buffers     the same for both sides, not cleared between calls\n");
@@ -696,9 +715,9 @@ int main(int argc, char **argv)
         fprintf(stderr, "usage: bench [--compare | --pass FAMILY P TRACES]\n");
         return 2;
     }
-    printf("compiler    %s, %s\n", __VERSION__, BENCH_FLAGS);
+    printf("compiler    %s, of native C and the benchmark: %s\n", COMPILER, BENCH_FLAGS);
     print_line_of("/proc/cpuinfo", "model name", "processor   ");
-    print_line_of("/proc/loadavg", "", "load        ");
+    print_line_of("/proc/loadavg", "", "load before ");
     fflush(stdout);
     if (!compare())
         return 1;

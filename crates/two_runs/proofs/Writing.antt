@@ -1,87 +1,139 @@
--- Writing the two runs. In order: the walk that is written down, operation by operation; how long a run is; the run
+-- Writing the two runs. In order: the walk that is written down, turn by turn; how long a run is; the run
 -- that holds an operation back, in two walks; both runs.
 use mathlib.Core.List.{List, [], _∷_, _++_, append-assoc, append-nil}
+use mathlib.Core.Logic.{inl, inr}
 use mathlib.Core.Path.{_≡_, sym, ap, _∙_}
 use native.Mathlib.Nat.{sub-zero}
 use native.Mathlib.Omega.{arith}
-use Prim.Native.Nat.{ℕ, _+_, _-_, _<_, _≤_}
-use lib.ListN.{length, set, take, drop, length-append, length-drop}
-use lib.Seq.{take-all, length-take-le}
+use Prim.Native.Nat.{ℕ, _+_, _-_, _*_, _<_, _≤_}
+use lib.ListN.{length, getD, set, take, drop, length-append, length-drop}
+use lib.Seq.{take-all, length-take-le, getD-drop}
+use Rattle.runs.proofs.Booleans.{less?}
 use Rattle.trace.specs.Premises.{HoldsTrace}
 use Rattle.trace.specs.Reading.{traceOf}
 use Rattle.trace.specs.Trace.{Trace, size}
 use Rattle.model.specs.Computed.{heldBackRun}
 use Rattle.model.proofs.HeldBack.{held-back-length}
-use Rattle.walk.specs.Walks.{startWalk, move, added, walkFrom, runFrom}
+use Rattle.walk.specs.Turns.{Turned}
+use Rattle.walk.specs.Walks.{startWalk, walkFrom, runFrom}
 use Rattle.walk.specs.declared.Walk.{Walk}
 use Rattle.walk.proofs.EventBits.{trace-fits}
-use Rattle.walk.proofs.Loops.{stop-at, step-at, run-stop-at, run-step-at}
-use Rattle.walk.proofs.Moves.{walk-zero, run-zero, run-fewer}
+use Rattle.walk.proofs.Moves.{run-fewer}
+use Rattle.walk.proofs.Turns.{OnTheWay, due-end, way-start, way-turn, way-less, way-end}
 use Rattle.simulation.proofs.Walked.{run-held-back}
 use Rattle.accept.specs.Acceptance.{AcceptedTrace}
 use Rattle.accept.proofs.Questions.{accepted-workers, accepted-run}
 use Rattle.lent.specs.Written.{writtenOver}
-use Rattle.lent.proofs.Writing.{Written, written-none, written-one, written-by, written-part, written-all}
-use Rattle.two_runs.specs.Premises.{WritesWalk, Runnable}
+use Rattle.lent.proofs.Writing.{Written, written-none, written-copy, written-by, written-part, written-all}
+use Rattle.two_runs.specs.Premises.{Copies, WritesWalk, Runnable}
 use Rattle.two_runs.specs.declared.Reached.{Reached}
 
 -- ---- a walk
 
--- `at` operations are added and written to the part `old`, and w is where they lead
-pub record WalkedSoFar (t : Trace) (a : ℕ) (start : Walk) (old : List ℕ) (w : Walk) (at : ℕ) (now : List ℕ)
+-- the stretch of the order that is copied
+pub copied-more : (order : List ℕ) (from : ℕ) {old now : List ℕ} {i : ℕ} → Copies order from old
+    → Written i (take i (drop from order)) old now → i < length now
+    → Written (i + 1) (take (i + 1) (drop from order)) old (set now i (getD order (from + i) 0))
+copied-more order from {old} {now} {i} c w l =
+    rw (← getD-drop from order i 0)
+    (written-copy (drop from order) w 0 (simp length-drop (omega (arith, c .inside some, w .size, l))) l)
+  where
+    some : 0 < length old
+    some = omega (arith, l, w .size)
+
+pub copied-all : (order : List ℕ) (from : ℕ) {old now : List ℕ} {i : ℕ} → Written i (take i (drop from order)) old now
+    → length now ≤ i → now ≡ take (length old) (drop from order)
+copied-all order from {old} {now} {i} w l =
+    let e : i ≡ length old = omega (arith, w .fits, w .size, l) in
+    written-all w l ∙ rw e
+
+-- `at` operations are added and written to the part `old`, w is where they lead, and it is worker q's turn
+pub record WalkedSoFar (t : Trace) (a : ℕ) (start : Walk) (old : List ℕ) (w : Walk) (at q : ℕ) (now : List ℕ)
     : Type 0 where
   pub so-far : List ℕ
   pub written : Written at so-far old now
   pub run : runFrom t a start (length old) ≡ so-far ++ runFrom t a w (length old - at)
-  pub walk : walkFrom t a start (length old) ≡ walkFrom t a w (length old - at)
+  pub walk : OnTheWay t a start (length old) w (length old - at) q
 
-pub walked-none : (t : Trace) (a : ℕ) (start : Walk) (old : List ℕ) → WalkedSoFar t a start old start 0 old
-walked-none t a start old =
-    record { so-far = []; written = written-none old; run = rw sub-zero; walk = rw sub-zero }
+pub walked-none : (t : Trace) (a : ℕ) {start : Walk} (old : List ℕ) → length (start .done) ≡ 16
+    → WalkedSoFar t a start old start 0 0 old
+walked-none t a old l =
+    record { so-far = []; written = written-none old; run = rw sub-zero; walk = rw sub-zero (way-start t a _ l) }
 
--- nothing more is added
-walked-end : {t : Trace} {a : ℕ} {start : Walk} {old : List ℕ} {w : Walk} {at : ℕ} {now : List ℕ}
-    → WalkedSoFar t a start old w at now → runFrom t a w (length old - at) ≡ [] → walkFrom t a w (length old - at) ≡ w
+-- a turn, and what it copies: m operations from place `from` of the order on
+module _ {t : Trace} {a : ℕ} {start : Walk} {old : List ℕ} {w : Walk} {at q : ℕ} {now : List ℕ}
+    (s : WalkedSoFar t a start old w at q now) {order : List ℕ} {from : ℕ} {w′ : Walk} {q′ : ℕ}
+    (u : Turned t a (length old - at) order from w q w′ q′) (places : size t ≤ length order) where
+  -- how many there are, by the places before and after
+  pub taken-is : (start-place : ℕ) {before after : ℕ} → before ≡ start-place + getD (w .done) q 0
+      → after ≡ start-place + getD (w′ .done) q 0 → after - before ≡ u .taken
+  taken-is start-place e i = omega (arith, e, i, u .count)
+
+  pub taken-fits : at + u .taken ≤ length old
+  taken-fits = omega (arith, u .few, s .written .fits)
+
+  -- the code's `width` of the part, and `more`, by which it goes on
+  module _ {more width : ℕ} (e : more ≡ u .taken) (i : width ≡ more) where
+    part-long : length (take width (drop at now)) ≡ u .taken
+    part-long =
+        let room : width ≤ length (drop at now)
+        = simp length-drop (omega (arith, e, i, taken-fits, s .written .size)) in
+        length-take-le width (drop at now) room ∙ i ∙ e
+
+    pub turn-copies : {place : ℕ} → place ≡ from → size t ≤ 1024 → Copies order place (take width (drop at now))
+    turn-copies j h =
+        rw j (record {
+          few = λ l. omega (arith, u .inside (some l), h, part-long);
+          inside = λ l. omega (arith, u .inside (some l), places, part-long);
+        })
+      where
+        some : 0 < length (take width (drop at now)) → 0 < u .taken
+        some l = omega (arith, l, part-long)
+
+    rest : length old - (at + more) ≡ length old - at - (getD (w′ .done) q 0 - getD (w .done) q 0)
+    rest = omega (arith, e, u .count)
+
+    pub walked-less : {p : ℕ} → p ≤ 16 → q < p
+        → (length old - (at + more)) * 17 + (p - q′) < (length old - at) * 17 + (p - q)
+    walked-less h l = rw rest (way-less (s .walk) u h l)
+
+    pub walked-turn : {place : ℕ} {part : List ℕ} → place ≡ from
+        → part ≡ take (length (take width (drop at now))) (drop place order)
+        → WalkedSoFar t a start old w′ (at + more) q′ (take at now ++ (part ++ drop width (drop at now)))
+    walked-turn {place} {part} j copied =
+        record {
+          so-far = s .so-far ++ part;
+          written = rw (← i) (written-part (s .written) part long (omega (arith, e, i, taken-fits)));
+          run = rw append-assoc (s .run ∙ ap (λ (r : List ℕ). s .so-far ++ r) adds);
+          walk = rw rest (way-turn (s .walk) u);
+        }
+      where
+        stretch : part ≡ take (u .taken) (drop from order)
+        stretch = copied ∙ rw (j, part-long)
+
+        long : length part ≡ width
+        long = rw stretch (elim (less? 0 (u .taken)) [
+          | inl l ↦ length-take-le (u .taken) (drop from order) (simp length-drop (omega (arith, u .inside l, places)))
+          | inr l ↦ length-take-le (u .taken) (drop from order) (omega (arith, l))
+        ]) ∙ sym (i ∙ e)
+
+        adds : runFrom t a w (length old - at) ≡ part ++ runFrom t a w′ (length old - (at + more))
+        adds =
+            let all : length old - at ≡ u .taken + (length old - (at + more)) = omega (arith, e, u .few) in
+            ap (runFrom t a w) all ∙ u .adds (length old - (at + more)) ∙ rw stretch
+
+-- after the last turn nothing more is added
+pub walked-end : {t : Trace} {a : ℕ} {start : Walk} {old : List ℕ} {w : Walk} {at q : ℕ} {now : List ℕ}
+    → WalkedSoFar t a start old w at q now → t .workers ≤ q
     → WritesWalk t a start old (record { walk = w; count = at }) now
-walked-end {t} {a} {start} {old} s e i =
-    let all : runFrom t a start (length old) ≡ s .so-far = s .run ∙ rw e (append-nil (s .so-far)) in
+walked-end {t} {a} {start} {old} {w} {at} s l =
+    let end = due-end (length old - at) (s .walk .due) l in
+    let all : runFrom t a start (length old) ≡ s .so-far = s .run ∙ rw (end .1) (append-nil (s .so-far)) in
     record {
-      end = sym (s .walk ∙ i);
+      end = way-end (s .walk) l;
       counts = sym (ap length all ∙ s .written .place);
       writes = rw all (s .written .whole);
     }
-
-pub walked-full : {t : Trace} {a : ℕ} {start : Walk} {old : List ℕ} {w : Walk} {at : ℕ} {now : List ℕ}
-    → WalkedSoFar t a start old w at now → length now ≤ at
-    → WritesWalk t a start old (record { walk = w; count = at }) now
-walked-full {t} {a} {old = old} {w = w} {at} s l =
-    let none : length old - at ≡ 0 = omega (arith, s .written .size) in
-    walked-end s (rw none (run-zero t a w)) (rw none (walk-zero t a w))
-
-module _ {bytes : List ℕ} {p n : ℕ} (h : HoldsTrace bytes p n) {a : ℕ} {start : Walk} {old : List ℕ} {w : Walk} {at : ℕ}
-    {now : List ℕ} (s : WalkedSoFar (traceOf bytes) a start old w at now) {k : ℕ}
-    (e : k ≡ move (traceOf bytes) a w) where
-  pub walked-stop : n ≤ k → WritesWalk (traceOf bytes) a start old (record { walk = w; count = at }) now
-  walked-stop l = walked-end s (run-stop-at h a w e _ l) (stop-at h a w e _ l)
-
-  pub walked-more : at < length now → k < n → {w′ : Walk} → w′ ≡ added (traceOf bytes) w k
-      → WalkedSoFar (traceOf bytes) a start old w′ (at + 1) (set now at k)
-  walked-more l i {w′} f =
-      record {
-        so-far = s .so-far ++ k ∷ [];
-        written = written-one (s .written) l k;
-        run = rw append-assoc (s .run ∙ ap (λ (r : List ℕ). s .so-far ++ r) step ∙ rw one-less);
-        walk = s .walk ∙ step-at h a w e (length old - at) some i f ∙ rw one-less;
-      }
-    where
-      some : 0 < length old - at
-      some = omega (arith, s .written .size)
-
-      one-less : length old - at - 1 ≡ length old - (at + 1)
-      one-less = omega arith
-
-      step : runFrom (traceOf bytes) a w (length old - at) ≡ k ∷ runFrom (traceOf bytes) a w′ (length old - at - 1)
-      step = run-step-at h a w e (length old - at) some i f
 
 -- ---- a run holds all n operations
 

@@ -3,7 +3,7 @@
 -- Differs: nowhere. Means: the call's contract speaks of none of these.
 use mathlib.Core.List.{List}
 use mathlib.Core.Path.{_≡_}
-use Prim.Native.Nat.{ℕ}
+use Prim.Native.Nat.{ℕ, _+_, _<_, _≤_}
 use lib.ListN.{length}
 use Rattle.trace.specs.Reading.{traceOf}
 use Rattle.trace.specs.Trace.{Trace}
@@ -13,6 +13,11 @@ use Rattle.walk.specs.Walks.{Walkable, walkFrom, runFrom}
 use Rattle.accept.specs.Acceptance.{AcceptedTrace}
 use Rattle.lent.specs.Written.{writtenOver}
 use Rattle.two_runs.specs.declared.Reached.{Reached}
+
+-- the order has a place, from place `from` on, for each number of the part
+pub record Copies (order : List ℕ) (from : ℕ) (part : List ℕ) : Type 0 where
+  pub few : 0 < length part → from + length part ≤ 1024
+  pub inside : 0 < length part → from + length part ≤ length order
 
 -- the walk without a from `start`, of as many steps as the part `old` holds numbers: where it has got to, how many
 -- operations it added, and the part with them written to its front

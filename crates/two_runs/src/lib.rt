@@ -1,14 +1,14 @@
 // Two complete runs of a file's trace for a pair of operations that is not ordered, written to two lent buffers.
 ghost use mathlib.Core.Path.{_≡_};
 ghost use Prim.Native.Nat.{_≤_};
-ghost use lib.ListN.{length};
+ghost use lib.ListN.{length, take, drop};
 ghost use Rattle.trace.specs.Premises.{HoldsTrace};
 ghost use Rattle.trace.specs.Reading.{traceOf};
 ghost use Rattle.model.specs.Computed.{heldBackRun};
 ghost use Rattle.walk.specs.Walks.{Walkable};
 ghost use Rattle.accept.specs.Acceptance.{AcceptedTrace};
 ghost use Rattle.two_runs.specs.Refusals.{AcceptedUnordered};
-ghost use Rattle.two_runs.specs.Premises.{WritesWalk, Runnable, BothWritten};
+ghost use Rattle.two_runs.specs.Premises.{Copies, WritesWalk, Runnable, BothWritten};
 ghost use Rattle.two_runs.specs.Runs.{RunsCall};
 use accept::AcceptAnswer;
 use pair_order::OrderAnswer;
@@ -26,7 +26,20 @@ struct Reached {
     count: usize,
 }
 
-// Writes the operations that the walk from `start` adds, as far as the part reaches.
+// Copies the operations that stand in the order from place `from` on.
+fn copy_places(order: &[u16; 1024], from: usize, part: &mut [u16])
+    requires { ⌜ Copies (now order) from (now part) ⌝ }
+    ensures { λ r. ⌜ now (part .exit) ≡ take (length (now (part .entry))) (drop from (now (order .entry))) ⌝ }
+{
+    let mut i = 0;
+    while i < part.len() {
+        part[i] = order[from + i];
+        i += 1;
+    }
+}
+
+// Writes the operations that the walk from `start` adds, as far as the part reaches: turn by turn, the stretch of the
+// order that the worker went.
 fn write_walk(
     file: &[u8],
     p: usize,
@@ -41,18 +54,26 @@ fn write_walk(
     ensures { λ r. ⌜ WritesWalk (traceOf (now (file .entry))) «left_out» start (now (part .entry)) r
         (now (part .exit)) ⌝ }
 {
-    let mut w = start;
+    let mut done = start.done;
+    let mut events = start.events;
     let mut at: usize = 0;
-    while at < part.len() {
-        let k = walk::next_move(file, p, n, order, starts, left_out, w);
-        if n <= k {
-            return Reached { walk: w, count: at };
-        }
-        part[at] = k as u16;
-        w = walk::add(file, w, k);
-        at += 1;
+    let mut q: usize = 0;
+    while q < p {
+        let from = walk::next_place(starts, &done, q);
+        let left = part.len() - at;
+        let next = walk::turn(file, order, starts, left_out, left, q, &mut done, &mut events);
+        let end = at + (walk::next_place(starts, &done, q) - from);
+        copy_places(order, from, &mut part[at..end]);
+        at = end;
+        q = next;
     }
-    Reached { walk: w, count: at }
+    Reached {
+        walk: Walk {
+            done: done,
+            events: events,
+        },
+        count: at,
+    }
 }
 
 // Writes the run that holds operation b back: the walk without b, and from where it ends the walk with nothing left

@@ -130,7 +130,7 @@ pub fn add(file: &[u8], w: Walk, k: usize) -> Walk
 }
 
 // The place of worker q's next operation, or of the end of its part.
-fn next_place(starts: &[u16; 17], done: &[u16; 16], q: usize) -> usize
+pub fn next_place(starts: &[u16; 17], done: &[u16; 16], q: usize) -> usize
     requires { ⌜ q < 16 ⌝ }
     ensures { λ r. ⌜ (r ≡ getD (now (starts .entry)) q 0 + getD (now (done .entry)) q 0)
         × (getD (now (done .entry)) q 0 < 65536) ⌝ }

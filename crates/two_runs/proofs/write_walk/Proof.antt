@@ -1,72 +1,119 @@
--- `write_walk` meets its contract. The invariant: what was added so far is written, and w is where it leads.
--- Assumes nothing.
+-- `write_walk` meets its contract. The invariant: what was added so far is written, w is where it leads, and it is
+-- worker q's turn. Assumes nothing.
+use native.Mathlib.Nat.{add-sub-cancel-left}
 use native.Mathlib.Omega.{arith}
-use Prim.Native.Nat.{_-_}
+use Prim.Native.Nat.{_+_, _-_, _*_, _≤_}
 use lib.ListN.{length}
 use borrow.Author.Needs.{needs}
 use Rattle.trace.specs.Reading.{traceOf}
-use Rattle.walk.proofs.EventBits.{trace-fits}
-use Rattle.walk.proofs.Loops.{move-room}
-use Rattle.two_runs.proofs.Writing.{WalkedSoFar, walked-none, walked-stop, walked-more, walked-full}
+use Rattle.index.proofs.Lookups.{places-inside}
+use Rattle.walk.specs.Walks.{stateOf}
+use Rattle.walk.proofs.Turns.{way-asks}
+use Rattle.two_runs.proofs.Writing.{WalkedSoFar, walked-none, taken-is, turn-copies, walked-less}
+use Rattle.two_runs.proofs.Writing.{walked-turn, walked-end}
 use Rattle.two_runs.proofs.write_walk.Statement.{statement}
 use Rattle.two_runs.proofs.write_walk.Tie as tie
 
 abbrev Inv-loop : tie.InvT-loop
-Inv-loop file p n order starts left-out part₀ w₀ at₀ part w at = WalkedSoFar (traceOf file) left-out w₀ part₀ w at part
+Inv-loop file p n order starts left-out part₀ done₀ events₀ at₀ q₀ part done events at q = 
+    WalkedSoFar (traceOf file) left-out (stateOf done₀ events₀) part₀ (stateOf done events) at q part
 
 abbrev μ-loop : tie.MeasureT-loop
-μ-loop file p n order starts left-out part₀ w₀ at₀ part w at = length part₀ - at
+μ-loop file p n order starts left-out part₀ done₀ events₀ at₀ q₀ part done events at q = 
+    (length part₀ - at) * 17 + (p - q)
 
 loop-holds : tie.Need-loop-holds Inv-loop μ-loop
-loop-holds c = walked-none _ _ _ _
+loop-holds c = walked-none _ _ _ (search needs)
 
-next-move-requires : tie.Need-next-move-requires Inv-loop μ-loop
-next-move-requires c κs = c .before .before .before .before .pre
+next-place-requires : tie.Need-next-place-requires Inv-loop μ-loop
+next-place-requires c κs =
+    let c2 = c .before .before in
+    omega (arith, c .before .loop-test .taken, c2 .before .before .before .before .before .pre .holds .most)
 
-same-length : tie.Need-same-length Inv-loop μ-loop
-same-length c = c .before .before .before .loop .inv .written .size
+sub-left : tie.Need-sub-left Inv-loop μ-loop
+sub-left c =
+    let w = c .before .before .before .loop .inv .written in
+    let fits = w .fits in
+    let size = w .size in
+    search needs
 
-returns : tie.Need-returns Inv-loop μ-loop
-returns c =
+turn-requires : tie.Need-turn-requires Inv-loop μ-loop
+turn-requires c κs =
+    let c5 = c .before .before .before .before .before in
+    let walkable = c5 .before .before .before .before .before .pre in
+    let inv = c5 .loop .inv in
+    rw (inv .written .size) (way-asks walkable (inv .walk) (c .before .before .before .before .loop-test .taken))
+
+next-place-requires-2 : tie.Need-next-place-requires-2 Inv-loop μ-loop
+next-place-requires-2 c κs = search needs
+
+sub-end : tie.Need-sub-end Inv-loop μ-loop
+sub-end c = search needs
+
+add-end : tie.Need-add-end Inv-loop μ-loop
+add-end c = search needs
+
+mul-copy-places : tie.Need-mul-copy-places Inv-loop μ-loop
+mul-copy-places c = search needs
+
+sub-copy-places : tie.Need-sub-copy-places Inv-loop μ-loop
+sub-copy-places c = search needs
+
+part-copy-places-start : tie.Need-part-copy-places-start Inv-loop μ-loop
+part-copy-places-start c = search needs
+
+part-copy-places-end : tie.Need-part-copy-places-end Inv-loop μ-loop
+part-copy-places-end c = search needs
+
+copy-places-requires : tie.Need-copy-places-requires Inv-loop μ-loop
+copy-places-requires c κs =
     let c1 = c .before in
     let c3 = c1 .before .before in
     let c6 = c3 .before .before .before in
-    walked-stop (c6 .pre .holds) (c3 .loop .inv) (c1 .next-move .ensures) (c .if1 .taken)
-
-cast-part : tie.Need-cast-part Inv-loop μ-loop
-cast-part c = let few = c .before .before .before .before .before .before .pre .holds .few in omega (arith, few)
-
-mul-part : tie.Need-mul-part Inv-loop μ-loop
-mul-part c = search needs
-
-slice-write-part : tie.Need-slice-write-part Inv-loop μ-loop
-slice-write-part c = search needs
-
-add-requires : tie.Need-add-requires Inv-loop μ-loop
-add-requires c κs = let holds = c .before .before .before .before .before .before .pre .holds in
-    let room = move-room holds _ _ (c .before .next-move .ensures) (c .if1 .left) in
-    (trace-fits holds, omega (arith, holds .count), room)
-
-add-at : tie.Need-add-at Inv-loop μ-loop
-add-at c = search needs
+    let c9 = c6 .before .before .before in
+    let x = c9 .before .before .before .before .before .pre in
+    let s = c9 .loop .inv in
+    let u = rw (s .written .size) at (c3 .turn .ensures) in
+    let places = rw (← x .holds .count) at (places-inside (x .holds) (x .indexed)) in
+    let more = taken-is s u places _ (c6 .next-place .ensures .0) (c1 .next-place2 .ensures .0) in
+    turn-copies s u places more (add-sub-cancel-left (c9 .loop .at) _) (c6 .next-place .ensures .0)
+    (omega (arith, x .holds .count, x .holds .few))
 
 loop-less : tie.Need-loop-less Inv-loop μ-loop
-loop-less c = let size = c .before .before .before .before .loop .inv .written .size in omega (arith, size)
+loop-less c =
+    let c4 = c .before .before .before .before in
+    let c6 = c4 .before .before in
+    let c9 = c6 .before .before .before in
+    let c12 = c9 .before .before .before in
+    let x = c12 .before .before .before .before .before .pre in
+    let s = c12 .loop .inv in
+    let u = rw (s .written .size) at (c6 .turn .ensures) in
+    let places = rw (← x .holds .count) at (places-inside (x .holds) (x .indexed)) in
+    let more = taken-is s u places _ (c9 .next-place .ensures .0) (c4 .next-place2 .ensures .0) in
+    walked-less s u places more (add-sub-cancel-left (c12 .loop .at) _) (x .holds .most) (c9 .before .before .loop-test .taken)
 
 loop-again : tie.Need-loop-again Inv-loop μ-loop
 loop-again c =
-    let c1 = c .before in
-    let c2 = c1 .before in
+    let c2 = c .before .before in
     let c4 = c2 .before .before in
-    let c7 = c4 .before .before .before in
-    walked-more (c7 .pre .holds) (c4 .loop .inv) (c2 .next-move .ensures) (omega arith) (c1 .if1 .left)
-    (c .add .ensures)
+    let c6 = c4 .before .before in
+    let c9 = c6 .before .before .before in
+    let c12 = c9 .before .before .before in
+    let x = c12 .before .before .before .before .before .pre in
+    let s = c12 .loop .inv in
+    let u = rw (s .written .size) at (c6 .turn .ensures) in
+    let places = rw (← x .holds .count) at (places-inside (x .holds) (x .indexed)) in
+    let more = taken-is s u places _ (c9 .next-place .ensures .0) (c4 .next-place2 .ensures .0) in
+    walked-turn s u places more (add-sub-cancel-left (c12 .loop .at) _) (c9 .next-place .ensures .0)
+    (c2 .copy-places .ensures)
 
-same-length-2 : tie.Need-same-length-2 Inv-loop μ-loop
-same-length-2 c = c .before .loop .inv .written .size
+same-length : tie.Need-same-length Inv-loop μ-loop
+same-length c = search needs
 
-returns-2 : tie.Need-returns-2 Inv-loop μ-loop
-returns-2 c = walked-full (c .before .loop .inv) (omega arith)
+returns : tie.Need-returns Inv-loop μ-loop
+returns c =
+    let holds = c .before .before .before .before .before .before .pre .holds in
+    walked-end (c .before .loop .inv) (omega (arith, c .loop-test .left, holds .workers))
 
 pub write-walk-spec : {M : Type 1} → statement M
 write-walk-spec =
@@ -75,15 +122,18 @@ write-walk-spec =
     Inv-loop
     μ-loop
     loop-holds
-    next-move-requires
-    same-length
-    returns
-    cast-part
-    mul-part
-    slice-write-part
-    add-requires
-    add-at
+    next-place-requires
+    sub-left
+    turn-requires
+    next-place-requires-2
+    sub-end
+    add-end
+    mul-copy-places
+    sub-copy-places
+    part-copy-places-start
+    part-copy-places-end
+    copy-places-requires
     loop-less
     loop-again
-    same-length-2
-    returns-2)
+    same-length
+    returns)
