@@ -14,25 +14,22 @@ use Rattle.runs.proofs.Booleans.{test-equal, test-true, less?}
 use Rattle.runs.proofs.Members.{mem-test}
 use Rattle.trace.specs.Trace.{Trace, size, workerOf}
 use Rattle.model.specs.Computed.{largestRunWithout, row, mustPrecedeIn}
-use Rattle.model.proofs.TableRows.{row-length, row-entry}
+use Rattle.model.specs.LargestRuns.{MaximalExecution}
+use Rattle.model.proofs.TableRows.{row-length, row-execution}
 use Rattle.walk.specs.declared.Walk.{Walk}
 use Rattle.walk.specs.Walks.{Fits, startWalk, nextOf, walkFrom}
 use Rattle.simulation.specs.Shows.{Ends}
 use Rattle.simulation.proofs.Ends.{ends-count, ends-holds}
-use Rattle.simulation.proofs.Walked.{walk-without}
+use Rattle.simulation.proofs.Walked.{workers-known, walk-without}
 
 module _ {t : Trace} (f : Fits t) where
   -- ---- the row: the done counts at the end
 
-  pub walk-row : (k : ℕ) → take (t .workers) (walkFrom t k startWalk (size t) .done) ≡ row t k
-  walk-row k = ext-getD 0 _ _ (long ∙ sym (row-length t k)) each
+  -- whichever maximal valid execution without k the walk took
+  pub ends-row : {k : ℕ} {m : List ℕ} → MaximalExecution t k m → {w : Walk} → Ends t m w
+      → take (t .workers) (w .done) ≡ row t k
+  ends-row {k} x {w} e = ext-getD 0 _ _ (long ∙ sym (row-length t k)) each
     where
-      w : Walk
-      w = walkFrom t k startWalk (size t)
-
-      e : Ends t (largestRunWithout t k) w
-      e = walk-without f k
-
       long : length (take (t .workers) (w .done)) ≡ t .workers
       long = length-take-le (t .workers) (w .done) (omega (arith, f .most, e .shows .counters))
 
@@ -40,7 +37,7 @@ module _ {t : Trace} (f : Fits t) where
           → getD (take (t .workers) (w .done)) q 0 ≡ getD (row t k) q 0
       each q l =
           let few : q < t .workers = omega (arith, long) in
-          getD-take (t .workers) (w .done) q 0 few ∙ ends-count e q ∙ sym (row-entry t k q few)
+          getD-take (t .workers) (w .done) q 0 few ∙ ends-count e q ∙ sym (row-execution (workers-known f) x q few)
 
   -- ---- a must precede b: at the end of the walk without a, b's worker has not got past b
 

@@ -7,7 +7,10 @@ use mathlib.Core.Path.{_≡_}
 use Prim.Native.Nat.{ℕ}
 use lib.ListN.{length, getD}
 use Rattle.runs.specs.Greedy.{greedyFrom}
+use Rattle.runs.specs.Maximal.{MaximalWithout}
+use Rattle.runs.specs.Membership.{_∉_}
 use Rattle.runs.specs.Rule.{without}
+use Rattle.runs.specs.Run.{Run}
 use Rattle.runs.specs.Steps.{done}
 use Rattle.runs.specs.Workers.{count, Counted}
 use Rattle.trace.specs.Trace.{Trace, workerOf}
@@ -33,3 +36,16 @@ pub record Walked (t : Trace) (a k : ℕ) (d : List ℕ) (w : Walk) : Type 0 whe
 pub record Ends (t : Trace) (r : List ℕ) (w : Walk) : Type 0 where
   pub shows : Shows t (done [] r) w
   pub counted : Counted (workerOf t) (done [] r)
+
+-- the state w is the end of a run that lacks a
+pub record Lacking (t : Trace) (a : ℕ) (w : Walk) : Type 0 where
+  pub run : List ℕ
+  pub is-run : Run (rule t) run
+  pub lacks : a ∉ run
+  pub ends : Ends t run w
+
+-- the state w is the end of a maximal valid execution without a
+pub record Exhausted (t : Trace) (a : ℕ) (w : Walk) : Type 0 where
+  pub run : List ℕ
+  pub maximal : MaximalWithout (rule t) a run
+  pub ends : Ends t run w

@@ -108,27 +108,6 @@ fn stop_of(
     at
 }
 
-// The state after operation k: its worker has done one more, and a Post sets its event.
-pub fn add(file: &[u8], w: Walk, k: usize) -> Walk
-    requires { ⌜ Fits (traceOf (now file))
-        × (k < size (traceOf (now file)))
-        × (getD (w .done) (workerOf (traceOf (now file)) k) 0 < 1024) ⌝ }
-    ensures { λ r. ⌜ r ≡ added (traceOf (now (file .entry))) w k ⌝ }
-{
-    let o = trace::operation_of(file, k);
-    let q = o.worker as usize;
-    let mut done = w.done;
-    done[q] = done[q] + 1;
-    let mut events = w.events;
-    if o.kind == 1 {
-        post(&mut events, o.number);
-    }
-    Walk {
-        done: done,
-        events: events,
-    }
-}
-
 // The place of worker q's next operation, or of the end of its part.
 pub fn next_place(starts: &[u16; 17], done: &[u16; 16], q: usize) -> usize
     requires { ⌜ q < 16 ⌝ }
@@ -187,6 +166,21 @@ fn advance(done: &mut [u16; 16], q: usize, more: usize)
     done[q] = (wide(done[q]) + more) as u16;
 }
 
+// Adds operation k to the state: its worker has done one more, and a Post sets its event.
+pub fn add(file: &[u8], k: usize, done: &mut [u16; 16], events: &mut [u64; 4])
+    requires { ⌜ Fits (traceOf (now file))
+        × (k < size (traceOf (now file)))
+        × (getD (now done) (workerOf (traceOf (now file)) k) 0 < 1024) ⌝ }
+    ensures { λ r. ⌜ stateOf (now (done .exit)) (now (events .exit))
+        ≡ added (traceOf (now (file .entry))) (stateOf (now (done .entry)) (now (events .entry))) k ⌝ }
+{
+    let o = trace::operation_of(file, k);
+    advance(done, o.worker as usize, 1);
+    if o.kind == 1 {
+        post(events, o.number);
+    }
+}
+
 // Worker q's turn, of at most `left` operations: it goes on while its operations pass, and takes a Post of an event
 // that is not posted. Answers whose turn it is then: worker 0's after such a Post, which may have freed others, and
 // otherwise the next worker's.
@@ -221,8 +215,33 @@ pub fn turn(
     q + 1
 }
 
-// The state at the end of the walk from `start` that leaves out one operation. Where the number left out is n, which no
-// operation has, nothing is left out.
+// Goes on with a walk, which leaves out one operation, to its end. Where the number left out is n, which no operation
+// has, nothing is left out.
+pub fn walk_on(
+    file: &[u8],
+    p: usize,
+    n: usize,
+    order: &[u16; 1024],
+    starts: &[u16; 17],
+    left_out: usize,
+    done: &mut [u16; 16],
+    events: &mut [u64; 4],
+)
+    requires { ⌜ Walkable (now file) p n (now order) (now starts) × (length (now done) ≡ 16) ⌝ }
+    ensures { λ r. ⌜ stateOf (now (done .exit)) (now (events .exit))
+        ≡ walkFrom (traceOf (now (file .entry))) «left_out» (stateOf (now (done .entry)) (now (events .entry))) n ⌝ }
+{
+    let mut left = n;
+    let mut q: usize = 0;
+    while q < p {
+        let before = wide(done[q]);
+        let next = turn(file, order, starts, left_out, left, q, done, events);
+        left -= wide(done[q]) - before;
+        q = next;
+    }
+}
+
+// The state at the end of the walk from `start`.
 pub fn walk_from(
     file: &[u8],
     p: usize,
@@ -237,14 +256,7 @@ pub fn walk_from(
 {
     let mut done = start.done;
     let mut events = start.events;
-    let mut left = n;
-    let mut q: usize = 0;
-    while q < p {
-        let before = wide(done[q]);
-        let next = turn(file, order, starts, left_out, left, q, &mut done, &mut events);
-        left -= wide(done[q]) - before;
-        q = next;
-    }
+    walk_on(file, p, n, order, starts, left_out, &mut done, &mut events);
     Walk {
         done: done,
         events: events,

@@ -1,0 +1,181 @@
+-- Keeping a walk along one worker: from the end of the walk without an operation to the end of the walk without the
+-- worker's next one. In order: the operation left out; the walk goes on from any run that lacks it; its end, which is blocked; the
+-- row; the operation itself, added; where it is no Post, nothing else can go on.
+use mathlib.Core.Bool.{Bool, true, false, cond}
+use mathlib.Core.List.{List, [], _∷_, _++_}
+use mathlib.Core.Logic.{_⊎_, inl, inr, _≢_}
+use mathlib.Core.Path.{_≡_, refl, sym, ap, _∙_}
+use native.Mathlib.Omega.{arith}
+use Prim.Native.Nat.{ℕ, _+_, _<_, _≤_}
+use lib.Dec.{eqb, ltb}
+use lib.ListN.{getD, take}
+use lib.Seq.{getD-set-other}
+use borrow.Author.Tests.{eq-eqb, ne-eqb}
+use Rattle.runs.specs.Greedy.{greedyFrom}
+use Rattle.runs.specs.Maximal.{MaximalWithout}
+use Rattle.runs.specs.Membership.{_∈_, _∉_}
+use Rattle.runs.specs.Rule.{Rule, without}
+use Rattle.runs.specs.Run.{Run}
+use Rattle.runs.specs.Steps.{Addable, Closed, done}
+use Rattle.runs.proofs.Before.{before-first}
+use Rattle.runs.proofs.Booleans.{equal?, less?, zero-one}
+use Rattle.runs.proofs.Counts.{counted-nothing, run-counted}
+use Rattle.runs.proofs.Exchange.{exchange}
+use Rattle.runs.proofs.GreedyRuns.{greedy-from-maximal}
+use Rattle.runs.proofs.MaximalRuns.{maximal-closed}
+use Rattle.runs.proofs.Members.{done-append, lacks-snoc}
+use Rattle.runs.proofs.RunSteps.{run-empty}
+use Rattle.runs.proofs.RunsWithout.{without-monotone, run-without, maximal-without}
+use Rattle.trace.specs.Trace.{Trace, size, operation, workerOf, isPost, isWait}
+use Rattle.model.specs.Computed.{row}
+use Rattle.model.specs.Rule.{rule, order}
+use Rattle.model.specs.Runs.{CompleteRunOf}
+use Rattle.model.proofs.Largest.{execution-means}
+use Rattle.model.proofs.RuleLaws.{rule-monotone, rule-in-turn, order-preference}
+use Rattle.model.proofs.TraceRuns.{run-means, complete-means}
+use Rattle.walk.specs.declared.Walk.{Walk}
+use Rattle.walk.specs.Events.{isPosted}
+use Rattle.walk.specs.Walks.{Fits, startWalk, nextOf, mayRun, move, added, walkFrom, runFrom}
+use Rattle.walk.proofs.Moves.{may-below, Moved, move-some, move-none}
+use Rattle.walk.proofs.NextOperations.{next-rth}
+use Rattle.simulation.specs.Shows.{Shows, Walked, Ends, Lacking, Exhausted}
+use Rattle.simulation.proofs.Answers.{ends-row}
+use Rattle.simulation.proofs.Moves.{move-lowest}
+use Rattle.simulation.proofs.States.{shows-start, shows-added}
+use Rattle.simulation.proofs.Walked.{workers-known, walked}
+
+-- the operation left out may not run
+left-out : (t : Trace) (events : List ℕ) (b : ℕ) → mayRun t b events b ≡ true → ⊥
+unfolding mayRun
+left-out t events b m = go (ltb b (size t)) (rw (eq-eqb b b refl) at m)
+  where
+    go : (x : Bool) → cond x false false ≡ true → ⊥
+    go true e = zero-one cc
+    go false e = zero-one cc
+
+-- what may run where b is left out may run where another is
+may-other : (t : Trace) (events : List ℕ) (k b : ℕ) {a : ℕ} → k ≢ a → mayRun t b events k ≡ true
+    → mayRun t a events k ≡ true
+unfolding mayRun
+may-other t events k b {a} d m = rw (ne-eqb k a d) (go (ltb k (size t)) (eqb k b) m)
+  where
+    rest : Bool
+    rest = cond (isWait (operation t k .kind)) (isPosted events (operation t k .number)) true
+
+    go : (x y : Bool) → cond x (cond y false rest) false ≡ true → cond x rest false ≡ true
+    go false y e = e
+    go true true e = absurd (zero-one cc)
+    go true false e = e
+
+-- ---- going on
+
+-- nothing is done
+pub lacking-start : (t : Trace) (a : ℕ) → Lacking t a startWalk
+lacking-start t a =
+    record {
+      run = [];
+      is-run = run-empty;
+      lacks = λ m. elim m [ ];
+      ends = record { shows = shows-start t; counted = counted-nothing (workerOf t) };
+    }
+
+module _ {t : Trace} (f : Fits t) {a : ℕ} where
+  -- from a run that lacks a, the walk without a ends with a maximal valid execution without a
+  pub lacking-walk : {w : Walk} → Lacking t a w → Exhausted t a (walkFrom t a w (size t))
+  lacking-walk {w} l = record { run = l .run ++ runFrom t a w (size t); maximal = maximal; ends = ends }
+    where
+      on : Walked t a (size t) (done [] (l .run)) w
+      on = walked f a (size t) (l .ends .shows) (l .ends .counted)
+
+      maximal : MaximalWithout (rule t) a (l .run ++ runFrom t a w (size t))
+      maximal =
+          rw (on .adds) (maximal-without .1
+          (greedy-from-maximal (without-monotone (rule-monotone t) a) (order-preference (workers-known f))
+          (run-without .1 (l .is-run, l .lacks))))
+
+      ends : Ends t (l .run ++ runFrom t a w (size t)) (walkFrom t a w (size t))
+      ends =
+          let all = done-append [] (l .run) (runFrom t a w (size t)) in
+          record { shows = rw all (on .shows); counted = rw all (on .counted) }
+
+  module _ {w : Walk} (x : Exhausted t a w) where
+    -- the row: the done counts
+    pub exhausted-row : take (t .workers) (w .done) ≡ row t a
+    exhausted-row = ends-row f (execution-means t .0 (x .maximal)) (x .ends)
+
+    -- no worker can go on
+    pub exhausted-stops : size t ≤ move t a w
+    exhausted-stops = elim (less? (move t a w) (size t)) [
+      | inl l ↦
+          let closed = maximal-closed (without-monotone (rule-monotone t) a) (maximal-without .0 (x .maximal)) in
+          absurd (closed .none (move-lowest f (x .ends .shows) (x .ends .counted) a l .can))
+      | inr l ↦ l
+    ]
+
+    -- ---- the operation itself, where there is a complete run
+
+    module _ {c : List ℕ} (complete : CompleteRunOf t c) (below : a < size t) where
+      -- it can be added, since something can, and nothing else
+      longer : Run (rule t) (x .run ++ a ∷ [])
+      longer =
+          let whole = complete-means t .1 complete in
+          let y = exchange (rule-monotone t) (x .maximal .is-run) (whole .is-run) (whole .holds a below)
+              (x .maximal .lacks) in
+          rw (x .maximal .maximal (y .0) (y .2)) at (y .2)
+
+      -- and the run with it lacks the worker's later operations
+      pub own-lacking : {b : ℕ} → workerOf t a ≡ workerOf t b → a < b → Lacking t b (added t w a)
+      own-lacking {b} e l = record { run = x .run ++ a ∷ []; is-run = longer; lacks = lacks; ends = ends }
+        where
+          lacks : b ∉ x .run ++ a ∷ []
+          lacks = lacks-snoc later (λ z. omega (arith, z, l))
+            where
+              later : b ∉ x .run
+              later m =
+                  let before = run-means t .0 (x .maximal .is-run) .earlier-before m
+                      (record { same-worker = e; lower = l }) in
+                  x .maximal .lacks (before-first before)
+
+          ends : Ends t (x .run ++ a ∷ []) (added t w a)
+          ends =
+              record {
+                shows = rw (done-append [] (x .run) (a ∷ [])) (shows-added f (x .ends .shows) below);
+                counted = run-counted (rule-monotone t) (rule-in-turn t) longer;
+              }
+
+    -- ---- where it is no Post, no other worker can go on after it
+
+    own-events : isPost (operation t a .kind) ≡ false → added t w a .events ≡ w .events
+    unfolding added
+    own-events e = rw e
+
+    other-next : (r : ℕ) → r ≢ workerOf t a → nextOf t (added t w a) r ≡ nextOf t w r
+    unfolding added nextOf
+    other-next r d = rw (getD-set-other (w .done) (workerOf t a) r (getD (w .done) (workerOf t a) 0 + 1) 0 d)
+
+    pub own-stops : isPost (operation t a .kind) ≡ false → {b : ℕ} → nextOf t (added t w a) (workerOf t a) ≡ b
+        → size t ≤ move t b (added t w a)
+    own-stops e {b} next = elim (less? (move t b (added t w a)) (size t)) [
+      | inl l ↦ absurd (moves (move-some t b (added t w a) l))
+      | inr l ↦ l
+    ]
+      where
+        own : mayRun t b (w .events) (nextOf t (added t w a) (workerOf t a)) ≡ true → ⊥
+        own m = left-out t (w .events) b (rw next at m)
+
+        other : (r : ℕ) → r < t .workers → r ≢ workerOf t a → mayRun t b (w .events) (nextOf t w r) ≡ true → ⊥
+        other r l d m =
+            let none = move-none t a w exhausted-stops r l in
+            let some = may-other t (w .events) (nextOf t w r) b apart m in
+            zero-one cc
+          where
+            apart : nextOf t w r ≢ a
+            apart z = d (sym (next-rth t w r (may-below t b (w .events) (nextOf t w r) m) .own) ∙ ap (workerOf t) z)
+
+        moves : Moved t b (added t w a) → ⊥
+        moves m =
+            let may = rw (own-events e) at (m .may) in
+            elim (equal? (m .worker) (workerOf t a)) [
+              | inl i ↦ own (rw i at may)
+              | inr d ↦ other (m .worker) (m .below) d (rw (other-next (m .worker) d) at may)
+            ]
