@@ -5,28 +5,32 @@ use mathlib.Core.Bool.{Bool, true, false, cond}
 use mathlib.Core.List.{List, [], _∷_, _++_}
 use mathlib.Core.Logic.{_⊎_, inl, inr, _≢_}
 use mathlib.Core.Path.{_≡_, refl, sym, ap, _∙_}
+use native.Mathlib.Numerals.{add-one}
 use native.Mathlib.Omega.{arith}
-use Prim.Native.Nat.{ℕ, _+_, _<_, _≤_}
+use Prim.Native.Nat.{ℕ, suc, _+_, _<_, _≤_}
 use lib.Dec.{eqb, ltb}
-use lib.ListN.{getD, take}
-use lib.Seq.{getD-set-other}
+use lib.ListN.{length, getD, set, take}
+use lib.Seq.{getD-set-same, getD-set-other}
 use borrow.Author.Tests.{eq-eqb, ne-eqb}
 use Rattle.runs.specs.Greedy.{greedyFrom}
 use Rattle.runs.specs.Maximal.{MaximalWithout}
 use Rattle.runs.specs.Membership.{_∈_, _∉_}
-use Rattle.runs.specs.Rule.{Rule, without}
+use Rattle.runs.specs.Rule.{without}
 use Rattle.runs.specs.Run.{Run}
-use Rattle.runs.specs.Steps.{Addable, Closed, done}
+use Rattle.runs.specs.Steps.{done}
+use Rattle.runs.specs.Workers.{earlier}
 use Rattle.runs.proofs.Before.{before-first}
 use Rattle.runs.proofs.Booleans.{equal?, less?, zero-one}
-use Rattle.runs.proofs.Counts.{counted-nothing, run-counted}
+use Rattle.runs.proofs.Counts.{counted-nothing, earlier-less, run-counted}
 use Rattle.runs.proofs.Exchange.{exchange}
 use Rattle.runs.proofs.GreedyRuns.{greedy-from-maximal}
 use Rattle.runs.proofs.MaximalRuns.{maximal-closed}
 use Rattle.runs.proofs.Members.{done-append, lacks-snoc}
+use Rattle.runs.proofs.Rows.{row-own}
 use Rattle.runs.proofs.RunSteps.{run-empty}
 use Rattle.runs.proofs.RunsWithout.{without-monotone, run-without, maximal-without}
 use Rattle.trace.specs.Trace.{Trace, size, operation, workerOf, isPost, isWait}
+use Rattle.index.specs.Indexed.{Rth}
 use Rattle.model.specs.Computed.{row}
 use Rattle.model.specs.Rule.{rule, order}
 use Rattle.model.specs.Runs.{CompleteRunOf}
@@ -36,10 +40,11 @@ use Rattle.model.proofs.TraceRuns.{run-means, complete-means}
 use Rattle.walk.specs.declared.Walk.{Walk}
 use Rattle.walk.specs.Events.{isPosted}
 use Rattle.walk.specs.Walks.{Fits, startWalk, nextOf, mayRun, move, added, walkFrom, runFrom}
-use Rattle.walk.proofs.Moves.{may-below, Moved, move-some, move-none}
-use Rattle.walk.proofs.NextOperations.{next-rth}
-use Rattle.simulation.specs.Shows.{Shows, Walked, Ends, Lacking, Exhausted}
+use Rattle.walk.proofs.Moves.{may-below, Moved, move-some, move-none, walk-stop}
+use Rattle.walk.proofs.NextOperations.{next-rth, rth-next}
+use Rattle.simulation.specs.Shows.{Walked, Ends, Lacking, Exhausted, Kept}
 use Rattle.simulation.proofs.Answers.{ends-row}
+use Rattle.simulation.proofs.Ends.{ends-count}
 use Rattle.simulation.proofs.Moves.{move-lowest}
 use Rattle.simulation.proofs.States.{shows-start, shows-added}
 use Rattle.simulation.proofs.Walked.{workers-known, walked}
@@ -172,10 +177,54 @@ module _ {t : Trace} (f : Fits t) {a : ℕ} where
             apart : nextOf t w r ≢ a
             apart z = d (sym (next-rth t w r (may-below t b (w .events) (nextOf t w r) m) .own) ∙ ap (workerOf t) z)
 
+        may : (m : Moved t b (added t w a))
+            → mayRun t b (w .events) (nextOf t (added t w a) (m .worker)) ≡ true
+        may m =
+            sym (ap (λ (v : List ℕ). mayRun t b v (nextOf t (added t w a) (m .worker))) (own-events e)) ∙ m .may
+
         moves : Moved t b (added t w a) → ⊥
         moves m =
-            let may = rw (own-events e) at (m .may) in
             elim (equal? (m .worker) (workerOf t a)) [
-              | inl i ↦ own (rw i at may)
-              | inr d ↦ other (m .worker) (m .below) d (rw (other-next (m .worker) d) at may)
+              | inl i ↦ own (ap (λ (r : ℕ). mayRun t b (w .events) (nextOf t (added t w a) r)) (sym i) ∙ may m)
+              | inr d ↦ other (m .worker) (m .below) d (rw (other-next (m .worker) d) at (may m))
             ]
+
+    -- ---- so the walk is kept along the worker
+
+    module _ {c : List ℕ} (complete : CompleteRunOf t c) (below : a < size t) where
+      -- its worker has done its earlier operations
+      pub own-count : getD (w .done) (workerOf t a) 0 ≡ earlier (workerOf t) a
+      own-count =
+          ends-count (x .ends) (workerOf t a)
+          ∙ row-own (rule-monotone t) (rule-in-turn t) (complete-means t .1 complete) below (x .maximal)
+
+      own-next : {b : ℕ} → Rth t (workerOf t a) (suc (earlier (workerOf t) a)) b
+          → nextOf t (added t w a) (workerOf t a) ≡ b
+      unfolding added
+      own-next {b} r = rth-next t (added t w a) (rw count r)
+        where
+          count : getD (set (w .done) (workerOf t a) (getD (w .done) (workerOf t a) 0 + 1)) (workerOf t a) 0
+              ≡ suc (earlier (workerOf t) a)
+          count =
+              let few : workerOf t a < length (w .done)
+              = omega (arith, f .each a below .worker, f .most, x .ends .shows .counters) in
+              getD-set-same (w .done) (workerOf t a) _ 0 few ∙ rw (own-count, add-one)
+
+      -- b is the worker's next operation
+      pub along-next : {b : ℕ} → Rth t (workerOf t a) (suc (earlier (workerOf t) a)) b
+          → Kept t b (added t w a) (isPost (operation t a .kind))
+      along-next {b} r =
+          record {
+            lacking = own-lacking complete below (sym (r .own)) later;
+            still = λ e. walk-stop t b (added t w a) (size t) (own-stops e (own-next r));
+          }
+        where
+          later : a < b
+          later = go (less? a b) (equal? a b)
+            where
+              go : (a < b) ⊎ (b ≤ a) → (a ≡ b) ⊎ (a ≢ b) → a < b
+              go (inl l) d = l
+              go (inr l) (inl z) = absurd (omega (arith, rw (← z) at (r .ahead)))
+              go (inr l) (inr d) =
+                  let less = earlier-less (workerOf t) (workerOf t a) a (r .own) (omega (arith, l, d)) in
+                  absurd (omega (arith, less, rw (r .own) at (r .ahead)))

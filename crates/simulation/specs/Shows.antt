@@ -2,6 +2,7 @@
 -- Follows: document 01, "Runs": "the state of a walk is how many operations each worker has done, and the set of posted
 -- events".
 -- Differs: nowhere. A means: no contract speaks of it.
+use mathlib.Core.Bool.{Bool, false}
 use mathlib.Core.List.{List, []}
 use mathlib.Core.Path.{_≡_}
 use Prim.Native.Nat.{ℕ}
@@ -13,7 +14,7 @@ use Rattle.runs.specs.Rule.{without}
 use Rattle.runs.specs.Run.{Run}
 use Rattle.runs.specs.Steps.{done}
 use Rattle.runs.specs.Workers.{count, Counted}
-use Rattle.trace.specs.Trace.{Trace, workerOf}
+use Rattle.trace.specs.Trace.{Trace, size, workerOf}
 use Rattle.model.specs.Rule.{posted, rule, order}
 use Rattle.walk.specs.declared.Walk.{Walk}
 use Rattle.walk.specs.Events.{isPosted}
@@ -49,3 +50,8 @@ pub record Exhausted (t : Trace) (a : ℕ) (w : Walk) : Type 0 where
   pub run : List ℕ
   pub maximal : MaximalWithout (rule t) a run
   pub ends : Ends t run w
+
+-- the state w, from which the walk without b is to go on; where no worker was `freed`, it is at its end already
+pub record Kept (t : Trace) (b : ℕ) (w : Walk) (freed : Bool) : Type 0 where
+  pub lacking : Lacking t b w
+  pub still : freed ≡ false → walkFrom t b w (size t) ≡ w

@@ -4,7 +4,7 @@ ghost use mathlib.Core.Path.{_≡_};
 ghost use Prim.Native.Nat.{_+_, _<_, _≤_, min};
 ghost use lib.ListN.{length, getD, set};
 ghost use Rattle.trace.specs.Reading.{traceOf};
-ghost use Rattle.trace.specs.Trace.{size, operation, workerOf};
+ghost use Rattle.trace.specs.Trace.{size, operation, workerOf, isPost};
 ghost use Rattle.walk.specs.Events.{isPosted, withPost};
 ghost use Rattle.walk.specs.Turns.{Listed, passes, Stop, postsAt, EventAt, Due, Turned};
 ghost use Rattle.walk.specs.Walks.{Fits, Walkable, Placed, startWalk, stateOf, nextOf, added, walkFrom, lowestLeft};
@@ -166,19 +166,22 @@ fn advance(done: &mut [u16; 16], q: usize, more: usize)
     done[q] = (wide(done[q]) + more) as u16;
 }
 
-// Adds operation k to the state: its worker has done one more, and a Post sets its event.
-pub fn add(file: &[u8], k: usize, done: &mut [u16; 16], events: &mut [u64; 4])
+// Adds operation k to the state: its worker has done one more, and a Post sets its event. Is it a Post?
+pub fn add(file: &[u8], k: usize, done: &mut [u16; 16], events: &mut [u64; 4]) -> bool
     requires { ⌜ Fits (traceOf (now file))
         × (k < size (traceOf (now file)))
         × (getD (now done) (workerOf (traceOf (now file)) k) 0 < 1024) ⌝ }
-    ensures { λ r. ⌜ stateOf (now (done .exit)) (now (events .exit))
-        ≡ added (traceOf (now (file .entry))) (stateOf (now (done .entry)) (now (events .entry))) k ⌝ }
+    ensures { λ r. ⌜ (stateOf (now (done .exit)) (now (events .exit))
+        ≡ added (traceOf (now (file .entry))) (stateOf (now (done .entry)) (now (events .entry))) k)
+        × (r ≡ isPost (operation (traceOf (now (file .entry))) k .kind)) ⌝ }
 {
     let o = trace::operation_of(file, k);
     advance(done, o.worker as usize, 1);
     if o.kind == 1 {
         post(events, o.number);
+        return true;
     }
+    false
 }
 
 // Worker q's turn, of at most `left` operations: it goes on while its operations pass, and takes a Post of an event

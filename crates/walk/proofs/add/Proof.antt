@@ -31,14 +31,20 @@ unfolding added
 returns c =
     let c4 = c .before .before .before .before in
     let c7 = c4 .before .before .before in
-    simp (← c7 .operation-of .ensures, eq-eqb _ _ (c .before .before .if1 .taken), c4 .advance .ensures, c .post .ensures)
+    let post = eq-eqb _ _ (c .before .before .if1 .taken) in (
+      simp (← c7 .operation-of .ensures, post, c4 .advance .ensures, c .post .ensures),
+      simp (← c7 .operation-of .ensures, post),
+    )
 
 returns-2 : tie.Need-returns-2
 unfolding added
 returns-2 c =
     let c2 = c .before .before in
     let c5 = c2 .before .before .before in
-    simp (← c5 .operation-of .ensures, ne-eqb _ _ (c .if1 .left), c2 .advance .ensures)
+    let other = ne-eqb _ _ (c .if1 .left) in (
+      simp (← c5 .operation-of .ensures, other, c2 .advance .ensures),
+      simp (← c5 .operation-of .ensures, other),
+    )
 
 pub add-spec : {M : Type 1} → statement M
 add-spec =
