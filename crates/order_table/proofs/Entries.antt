@@ -1,46 +1,26 @@
--- What is in the lent table after the call. In order: the rows, each in its part; after any call, the length; after
--- success, the row of an operation, what its entries count and tell, and what lies behind the rows.
-use mathlib.Core.List.{List, _++_, append-assoc}
-use mathlib.Core.Logic.{_⊎_, inl, inr, _≢_, _↔_}
+-- What is in the lent table after the call. In order: after any call, the length; after success, the row of an operation, what its entries count and tell, and what lies behind the rows.
+use mathlib.Core.List.{List}
+use mathlib.Core.Logic.{_≢_, _↔_}
 use mathlib.Core.Path.{_≡_, sym, ap, _∙_}
-use native.Mathlib.Omega.{arith}
-use Prim.Native.Nat.{ℕ, zero, suc, _+_, _*_, _<_, _≤_}
+use Prim.Native.Nat.{ℕ, _+_, _*_, _<_, _≤_}
 use lib.ListN.{length, getD, take, drop}
-use lib.Seq.{take-at, drop-at, getD-take, getD-drop}
+use lib.Seq.{getD-take, getD-drop}
 use Rattle.runs.specs.Workers.{count}
-use Rattle.runs.proofs.Booleans.{equal?}
 use Rattle.trace.specs.Trace.{Trace, size, workerOf, rank}
 use Rattle.model.specs.Computed.{row}
 use Rattle.model.specs.LargestRuns.{MaximalExecution}
 use Rattle.model.specs.Orders.{MustPrecedeIn}
 use Rattle.model.specs.Rule.{WorkersKnown}
-use Rattle.model.proofs.TableRows.{row-length, row-execution, row-must-precede}
+use Rattle.model.proofs.TableRows.{row-execution, row-must-precede}
 use Rattle.accept.proofs.Questions.{accepted-workers}
 use Rattle.lent.specs.Written.{writtenOver}
 use Rattle.lent.proofs.Left.{left-length}
 use Rattle.lent.proofs.Writing.{written-past}
 use Rattle.order_table.specs.Refusals.{AcceptedTable}
-use Rattle.order_table.specs.Table.{rows, orderTable, tableReading, tableAfter}
+use Rattle.order_table.specs.Table.{orderTable, tableReading, tableAfter}
 use Rattle.order_table.proofs.Questions.{table-comes-out}
 use Rattle.order_table.proofs.Answers.{call-by}
-use Rattle.order_table.proofs.Rows.{rows-length}
-
--- ---- the rows
-
--- among the first m rows, whatever is behind them: the p numbers from k × p on
-rows-part : (t : Trace) (m k : ℕ) (rest : List ℕ) → k < m
-    → take (t .workers) (drop (k * t .workers) (rows t m ++ rest)) ≡ row t k
-unfolding rows
-rows-part t zero k rest l = absurd (omega arith)
-rows-part t (suc m) k rest l = rw append-assoc (go (equal? k m) (rows-part t m k (row t m ++ rest)))
-  where
-    go : (k ≡ m) ⊎ (k ≢ m)
-        → (k < m → take (t .workers) (drop (k * t .workers) (rows t m ++ (row t m ++ rest))) ≡ row t k)
-        → take (t .workers) (drop (k * t .workers) (rows t m ++ (row t m ++ rest))) ≡ row t k
-    go (inl e) f =
-        rw (e, drop-at (rows t m) (row t m ++ rest) (m * t .workers) (rows-length t m))
-        (take-at (row t m) rest (t .workers) (row-length t m))
-    go (inr e) f = f (omega (arith, e))
+use Rattle.order_table.proofs.Rows.{rows-length, rows-part}
 
 -- ---- after any call
 

@@ -1,35 +1,27 @@
--- `write_row` meets its contract: the counts at the end of the walk without k, one by one.
--- Assumes nothing.
+-- `write_row` meets its contract. The invariant: the first q counts are written. Assumes nothing.
 use mathlib.Core.Path.{_≡_, ap, _∙_}
 use native.Mathlib.Omega.{arith}
-use Prim.Native.Nat.{ℕ, _<_, _-_}
+use Prim.Native.Nat.{ℕ, _-_}
 use lib.ListN.{length, take}
 use borrow.Author.Needs.{needs}
 use Rattle.lent.proofs.Writing.{Written, written-none, written-copy, written-all}
-use Rattle.order_table.proofs.Rows.{counts-row}
 use Rattle.order_table.proofs.write_row.Statement.{statement}
 use Rattle.order_table.proofs.write_row.Tie as tie
 
 abbrev Inv-loop : tie.InvT-loop
-Inv-loop file p n order starts k part₀ done q₀ part q = Written q (take q done) part₀ part
+Inv-loop done part₀ q₀ part q = Written q (take q done) part₀ part
 
 abbrev μ-loop : tie.MeasureT-loop
-μ-loop file p n order starts k part₀ done q₀ part q = length part₀ - q
-
-start-walk-requires : tie.Need-start-walk-requires Inv-loop μ-loop
-start-walk-requires c κs = search needs
-
-walk-from-requires : tie.Need-walk-from-requires Inv-loop μ-loop
-walk-from-requires c κs = search needs
+μ-loop done part₀ q₀ part q = length part₀ - q
 
 loop-holds : tie.Need-loop-holds Inv-loop μ-loop
 loop-holds c = written-none _
 
 mul-part : tie.Need-mul-part Inv-loop μ-loop
-mul-part c = search needs
+mul-part c = let size = c .before .loop .inv .size in search needs
 
-array-read-part : tie.Need-array-read-part Inv-loop μ-loop
-array-read-part c = search needs
+element-copy-out-part : tie.Need-element-copy-out-part Inv-loop μ-loop
+element-copy-out-part c = omega (arith, c .loop-test .taken, c .before .loop .inv .size, c .before .before .pre .0)
 
 mul-part-2 : tie.Need-mul-part-2 Inv-loop μ-loop
 mul-part-2 c = search needs
@@ -45,25 +37,21 @@ loop-less c = search needs
 
 loop-again : tie.Need-loop-again Inv-loop μ-loop
 loop-again c =
-    let long : length (c .before .before .before .walk-from .result .done) ≡ 16 = search needs in
-    let c7 = c .before .before .before .before .before .before .before in
-    let done = c .before .before .before .walk-from .result .done in
-    let inside : c .before .loop .q < length done
-    = omega (arith, long, c7 .pre .1, c7 .pre .0 .holds .most, c .before .loop .inv .size) in
-    written-copy done (c .before .loop .inv) 0 inside (c .loop-test .taken)
+    let c2 = c .before .before in
+    let s = c2 .before in
+    written-copy (s .args .done .now) (c2 .loop .inv) 0
+    (omega (arith, c .before .loop-test .taken, c2 .loop .inv .size, s .pre .1)) (c .before .loop-test .taken)
 
 same-length : tie.Need-same-length Inv-loop μ-loop
-same-length c = search needs
+same-length c = c .before .loop .inv .size
 
 returns : tie.Need-returns Inv-loop μ-loop
 returns c =
-    let c3 = c .before .before .before in
-    let c7 = c3 .before .before .before .before in
-    let done = c3 .walk-from .result .done in
-    let full : c .before .loop .q ≡ c7 .args .p
-    = omega (arith, c7 .pre .1, c .before .loop .inv .fits, c .before .loop .inv .size, c .loop-test .left) in
-    let row-k = counts-row (c7 .pre .0 .holds) _ (c3 .before .start-walk .ensures) (c3 .walk-from .ensures) in
-    written-all (c .before .loop .inv) (c .loop-test .left) ∙ ap (λ (i : ℕ). take i done) full ∙ row-k
+    let c1 = c .before in
+    let s = c1 .before in
+    let full : c1 .loop .q ≡ length (s .args .part .now)
+    = omega (arith, c .loop-test .left, c1 .loop .inv .fits, c1 .loop .inv .size) in
+    written-all (c1 .loop .inv) (c .loop-test .left) ∙ ap (λ (i : ℕ). take i (s .args .done .now)) full
 
 pub write-row-spec : {M : Type 1} → statement M
 write-row-spec =
@@ -71,11 +59,9 @@ write-row-spec =
     (tie.spec
     Inv-loop
     μ-loop
-    start-walk-requires
-    walk-from-requires
     loop-holds
     mul-part
-    array-read-part
+    element-copy-out-part
     mul-part-2
     slice-write-part
     add-q

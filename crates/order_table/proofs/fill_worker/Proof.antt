@@ -1,0 +1,156 @@
+-- `fill_worker` meets its contract. The invariant: the rows before place `at` are written, and the walk is kept for the
+-- operation there. Assumes nothing.
+use mathlib.Core.Path.{refl}
+use native.Mathlib.Omega.{arith}
+use Prim.Native.Nat.{_-_}
+use borrow.Author.Needs.{needs}
+use Rattle.trace.specs.Reading.{traceOf}
+use Rattle.walk.specs.Walks.{stateOf}
+use Rattle.order_table.proofs.Keeping.{KeptTo, place-few, row-room, add-asks, kept-more, kept-start, kept-end}
+use Rattle.order_table.proofs.fill_worker.Statement.{statement}
+use Rattle.order_table.proofs.fill_worker.Tie as tie
+
+abbrev Inv-loop : tie.InvT-loop
+Inv-loop file p n order starts q table₀ done₀ events₀ freed₀ at₀ end table done events freed at =
+    KeptTo (traceOf file) order starts q at (stateOf done events) freed table₀ table
+
+abbrev μ-loop : tie.MeasureT-loop
+μ-loop file p n order starts q table₀ done₀ events₀ freed₀ at₀ end table done events freed at = end - at
+
+mul-wide : tie.Need-mul-wide Inv-loop μ-loop
+mul-wide c = search needs
+
+element-copy-out-wide : tie.Need-element-copy-out-wide Inv-loop μ-loop
+element-copy-out-wide c = let (x, hq) = c .before .before .pre in omega (arith, hq, x .walkable .holds .most)
+
+wide-requires : tie.Need-wide-requires Inv-loop μ-loop
+wide-requires c κs = search needs
+
+add-wide : tie.Need-add-wide Inv-loop μ-loop
+add-wide c = search needs
+
+mul-wide-2 : tie.Need-mul-wide-2 Inv-loop μ-loop
+mul-wide-2 c = search needs
+
+element-copy-out-wide-2 : tie.Need-element-copy-out-wide-2 Inv-loop μ-loop
+element-copy-out-wide-2 c = let (x, hq) = c .before .before .before .before .pre in omega (arith, hq, x .walkable .holds .most)
+
+wide-requires-2 : tie.Need-wide-requires-2 Inv-loop μ-loop
+wide-requires-2 c κs = search needs
+
+loop-holds : tie.Need-loop-holds Inv-loop μ-loop
+loop-holds c =
+    let (x, hq) = c .before .before .before .before .before .before .pre in
+    rw (c .before .before .wide .ensures .0) (kept-start x hq refl)
+
+mul-wide-3 : tie.Need-mul-wide-3 Inv-loop μ-loop
+mul-wide-3 c =
+    let c1 = c .before in
+    let (x, hq) = c1 .before .before .before .before .before .before .before .pre in
+    let upper = rw (c1 .before .wide2 .ensures .0) at (c .loop-test .taken) in
+    let few = place-few x hq (c1 .loop .inv .lower) upper in
+    search needs
+
+element-copy-out-wide-3 : tie.Need-element-copy-out-wide-3 Inv-loop μ-loop
+element-copy-out-wide-3 c =
+    let c1 = c .before in
+    let (x, hq) = c1 .before .before .before .before .before .before .before .pre in
+    let upper = rw (c1 .before .wide2 .ensures .0) at (c .loop-test .taken) in
+    place-few x hq (c1 .loop .inv .lower) upper
+
+wide-requires-3 : tie.Need-wide-requires-3 Inv-loop μ-loop
+wide-requires-3 c κs = search needs
+
+exhaust-requires : tie.Need-exhaust-requires Inv-loop μ-loop
+exhaust-requires c κs =
+    let c0 = c .before .before in
+    let c3 = c0 .before .before .before in
+    let s = c3 .before .before .before .before .before .before .before in
+    let (x, hq) = s .pre in
+    let lower = c3 .loop .inv .lower in
+    let upper = rw (c3 .before .wide2 .ensures .0) at (c0 .before .before .loop-test .taken) in
+    (x .walkable, rw (c0 .wide3 .ensures .0) (c3 .loop .inv .kept upper))
+
+put-row-requires : tie.Need-put-row-requires Inv-loop μ-loop
+put-row-requires c κs =
+    let c0 = c .before .before .before .before .before in
+    let c3 = c0 .before .before .before in
+    let s = c3 .before .before .before .before .before .before .before in
+    let (x, hq) = s .pre in
+    let lower = c3 .loop .inv .lower in
+    let upper = rw (c3 .before .wide2 .ensures .0) at (c0 .before .before .loop-test .taken) in
+    let e = rw (c0 .wide3 .ensures .0) at (c .before .before .exhaust .ensures) in
+    rw (c0 .wide3 .ensures .0) (row-room x hq lower upper e (c3 .loop .inv .same-length))
+
+add-requires : tie.Need-add-requires Inv-loop μ-loop
+add-requires c κs =
+    let c0 = c .before .before .before .before .before .before .before .before .before .before in
+    let c3 = c0 .before .before .before in
+    let s = c3 .before .before .before .before .before .before .before in
+    let (x, hq) = s .pre in
+    let lower = c3 .loop .inv .lower in
+    let upper = rw (c3 .before .wide2 .ensures .0) at (c0 .before .before .loop-test .taken) in
+    let e = rw (c0 .wide3 .ensures .0) at (c .before .before .before .before .before .before .before .exhaust .ensures) in
+    rw (c0 .wide3 .ensures .0) (add-asks x hq lower upper e)
+
+add-at : tie.Need-add-at Inv-loop μ-loop
+add-at c =
+    let c0 = c .before .before .before .before .before .before .before .before .before .before .before in
+    let c3 = c0 .before .before .before in
+    let s = c3 .before .before .before .before .before .before .before in
+    let (x, hq) = s .pre in
+    let lower = c3 .loop .inv .lower in
+    let upper = rw (c3 .before .wide2 .ensures .0) at (c0 .before .before .loop-test .taken) in
+    let few = place-few x hq lower upper in
+    search needs
+
+loop-less : tie.Need-loop-less Inv-loop μ-loop
+loop-less c = search needs
+
+loop-again : tie.Need-loop-again Inv-loop μ-loop
+loop-again c =
+    let c0 = c .before .before .before .before .before .before .before .before .before .before .before in
+    let c3 = c0 .before .before .before in
+    let s = c3 .before .before .before .before .before .before .before in
+    let (x, hq) = s .pre in
+    let lower = c3 .loop .inv .lower in
+    let upper = rw (c3 .before .wide2 .ensures .0) at (c0 .before .before .loop-test .taken) in
+    let e = rw (c0 .wide3 .ensures .0) at (c .before .before .before .before .before .before .before .before .exhaust .ensures) in
+    let (state, post) = rw (c0 .wide3 .ensures .0) at (c .add .ensures) in
+    let row = rw (c0 .wide3 .ensures .0) at (c .before .before .before .before .before .put-row .ensures) in
+    kept-more x hq lower upper (c3 .loop .inv) e state post row
+
+same-length : tie.Need-same-length Inv-loop μ-loop
+same-length c = c .before .loop .inv .same-length
+
+returns : tie.Need-returns Inv-loop μ-loop
+returns c =
+    let c1 = c .before in
+    let (x, hq) = c1 .before .before .before .before .before .before .before .pre in
+    kept-end x hq (c1 .loop .inv) (omega (arith, c .loop-test .left, c1 .before .wide2 .ensures .0))
+
+pub fill-worker-spec : {M : Type 1} → statement M
+fill-worker-spec =
+    tie.close
+    (tie.spec
+    Inv-loop
+    μ-loop
+    mul-wide
+    element-copy-out-wide
+    wide-requires
+    add-wide
+    mul-wide-2
+    element-copy-out-wide-2
+    wide-requires-2
+    loop-holds
+    mul-wide-3
+    element-copy-out-wide-3
+    wide-requires-3
+    exhaust-requires
+    put-row-requires
+    add-requires
+    add-at
+    loop-less
+    loop-again
+    same-length
+    returns)
