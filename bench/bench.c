@@ -34,12 +34,12 @@ enum {
     SMALL = 48,            /* operations that these have at most */
     MORE = 8,              /* bytes that they may be too long by */
     GUARD = 16,            /* elements behind lent memory that must stay as they were */
-    FEWEST_ROUNDS = 5,
-    FEWEST_SLOW_ROUNDS = 2,
-    MOST_ROUNDS = 1000
+    VISITS = 3,
+    FEWEST_ROUNDS = 3,     /* of a visit */
+    MOST_PASSES = 1000     /* of all visits */
 };
 
-static const double CELL_SECONDS = 0.15, SLOW_SECONDS = 1.0;
+static const double VISIT_SECONDS = 0.1, SLOW_SECONDS = 0.5;
 static const uint32_t sizes[] = {64, 128, 256, 512, 1024};
 static const uint32_t worker_counts[] = {16, 4};
 enum { SIZES = 5, WORKER_COUNTS = 2 };
@@ -481,15 +481,14 @@ static int compare(void)
 
 /* Timing */
 
-struct figures {
-    double least, median; /* microseconds per call */
+struct side {
+    uint32_t passes;
+    double times[MOST_PASSES]; /* of a pass, in no order */
+    double least, median;      /* microseconds per call */
 };
 
 struct cell {
-    uint32_t rounds;
-    int slow;
-    double library_times[MOST_ROUNDS], native_times[MOST_ROUNDS]; /* of a pass, in no order */
-    struct figures library, native;
+    struct side library, native;
 };
 
 static struct cell cells[WORKER_COUNTS][CALLS][FAMILIES][SIZES];
@@ -523,31 +522,32 @@ static int ascending(const void *x, const void *y)
     return (a > b) - (a < b);
 }
 
-static struct figures figures_of(double *times, uint32_t rounds, uint32_t count)
+static void find_figures(struct side *side, uint32_t count)
 {
-    qsort(times, rounds, sizeof *times, ascending);
-    return (struct figures){1e6 * times[0] / count, 1e6 * times[rounds / 2] / count};
+    qsort(side->times, side->passes, sizeof *side->times, ascending);
+    side->least = 1e6 * side->times[0] / count;
+    side->median = 1e6 * side->times[side->passes / 2] / count;
 }
 
-/* More rounds of one pass of each, the library first in every other one. A slow cell gets no second visit. */
-static void time_cell(struct cell *cell, int which, uint32_t count)
+static double add_pass(struct side *side, call *f, uint32_t count)
 {
-    uint32_t fewest = cell->slow ? 0 : cell->rounds + FEWEST_ROUNDS;
-    for (double spent = cell->slow ? SLOW_SECONDS : 0;
-         cell->rounds < fewest || (spent < CELL_SECONDS && cell->rounds < MOST_ROUNDS); cell->rounds++) {
-        uint32_t i = cell->rounds;
-        if (i % 2 == 0)
-            cell->library_times[i] = pass(mersohki_calls[which], count);
-        cell->native_times[i] = pass(native_calls[which], count);
-        if (i % 2 == 1)
-            cell->library_times[i] = pass(mersohki_calls[which], count);
-        spent += cell->library_times[i] + cell->native_times[i];
-        cell->slow = spent > SLOW_SECONDS;
-        if (cell->slow)
-            fewest = FEWEST_SLOW_ROUNDS;
+    return side->times[side->passes++] = pass(f, count);
+}
+
+/* A visit: rounds of one pass of each side, the library first in every other one; a slow library only in the first. */
+static void visit(struct cell *cell, int which, uint32_t count)
+{
+    double spent = 0;
+    for (uint32_t i = 0; i < FEWEST_ROUNDS || (spent < VISIT_SECONDS && i < MOST_PASSES / VISITS); i++) {
+        int both = spent < SLOW_SECONDS;
+        if (both && i % 2 == 0)
+            spent += add_pass(&cell->library, mersohki_calls[which], count);
+        spent += add_pass(&cell->native, native_calls[which], count);
+        if (both && i % 2 == 1)
+            spent += add_pass(&cell->library, mersohki_calls[which], count);
     }
-    cell->library = figures_of(cell->library_times, cell->rounds, count);
-    cell->native = figures_of(cell->native_times, cell->rounds, count);
+    find_figures(&cell->library, count);
+    find_figures(&cell->native, count);
 }
 
 static double mean_races(uint32_t count)
@@ -566,18 +566,18 @@ static void visit_cells(void)
                 uint32_t count = RECORDS / sizes[i];
                 make_inputs(family, sizes[i], worker_counts[p], count);
                 for (int which = 0; which < CALLS; which++)
-                    time_cell(&cells[p][which][family][i], which, count);
+                    visit(&cells[p][which][family][i], which, count);
                 race_counts[p][family] = mean_races(count);
             }
 }
 
-/* Every cell is visited twice, minutes or seconds apart, against disturbances that last longer than a visit. */
+/* Every cell is visited several times, far apart, against disturbances that last longer than a visit. */
 static void time_all(void)
 {
     lend(&ours, MERSOHKI_MAX_TABLE, MERSOHKI_MAX_RACES, MERSOHKI_MAX_RACES, MERSOHKI_MAX_FILE);
     lend(&theirs, MERSOHKI_MAX_TABLE, MERSOHKI_MAX_RACES, MERSOHKI_MAX_RACES, MERSOHKI_MAX_FILE);
-    visit_cells();
-    visit_cells();
+    for (int i = 0; i < VISITS; i++)
+        visit_cells();
 }
 
 /* Printing */
@@ -599,17 +599,19 @@ static void print_line_of(const char *path, const char *key, const char *title)
 
 static void print_setting(void)
 {
-    uint32_t fewest = MOST_ROUNDS, most = 0;
+    uint32_t fewest = MOST_PASSES, most = 0;
     const struct cell *all = &cells[0][0][0][0];
     for (size_t i = 0; i < sizeof cells / sizeof *all; i++) {
-        fewest = all[i].rounds < fewest ? all[i].rounds : fewest;
-        most = all[i].rounds > most ? all[i].rounds : most;
+        uint32_t passes = all[i].library.passes;
+        fewest = passes < fewest ? passes : fewest;
+        most = passes > most ? passes : most;
     }
     print_line_of("/proc/loadavg", "", "load after  ");
-    printf("time        least of the rounds, by CLOCK_MONOTONIC around a pass over all traces, per call\n");
-    printf("rounds      a pass of the library and one of native C, in changing order; %u to %u rounds per figure,\n"
-           "            twice %.2f s long, but at least twice %d rounds; once %d where that takes over %.0f s\n",
-           fewest, most, CELL_SECONDS, FEWEST_ROUNDS, FEWEST_SLOW_ROUNDS, SLOW_SECONDS);
+    printf("time        per call: the least of all passes over the traces, by CLOCK_MONOTONIC around each pass\n");
+    printf("rounds      a pass of the library and one of native C, in changing order; for %.1f s, at least %d rounds,\n"
+           "            and that in each of %d visits; a library that takes over %.1f s only in the first round of a\n"
+           "            visit; so %u to %u passes of the library\n",
+           VISIT_SECONDS, FEWEST_ROUNDS, VISITS, SLOW_SECONDS, fewest, most);
     printf("traces      %d / n different ones in turn, all accepted\n", RECORDS);
     printf("buffers     the same for both sides, not cleared between calls\n");
     for (uint32_t p = 0; p < WORKER_COUNTS; p++) {
