@@ -1,25 +1,64 @@
--- The reader's steps against `reading`. In order: the header, refused or read; what is left to read from record k on;
--- a record inside the file; the first record, the last; one record read, one refused.
+-- The reader's steps against `reading`. In order: a record's questions, as the code asks them; the header, refused or
+-- read; what is left to read from record k on; a record inside the file; the first record, the last; one record read,
+-- one refused.
 -- A law takes the code's own values with equations: what it read, where, and what was answered.
+use mathlib.Core.Bool.{Bool, true, false, not, _&&_, _||_, cond}
 use mathlib.Core.List.{List, [], _∷_, _++_}
 use mathlib.Core.Path.{_≡_, refl, sym, _∙_}
 use native.Mathlib.Nat.{add-zero, mul-suc, mul-zero, sub-zero}
 use native.Mathlib.Numerals.{add-one}
 use native.Mathlib.Omega.{arith}
 use Prim.Native.Nat.{ℕ, suc, _+_, _*_, _-_, _<_, _≤_}
+use lib.Dec.{eqb}
 use lib.ListN.{length, drop}
 use lib.Seq.{drop-drop}
 use borrow.Author.Tests.{eq-eqb, ne-eqb}
 use Rattle.trace.specs.declared.Operation.{Operation}
-use Rattle.trace.specs.Form.{Form, recordSize, start}
-use Rattle.trace.specs.Questions.{operationIn, headerQuestion, recordQuestion}
+use Rattle.trace.specs.Form.{Form, base, recordSize, start}
+use Rattle.trace.specs.Questions.{operationIn, marked, headerQuestion, workerKnown, kindKnown, eventFits, cellsFit}
+use Rattle.trace.specs.Questions.{recordQuestion}
 use Rattle.trace.specs.Reading.{Reading, reading, readingFrom}
 use Rattle.trace.specs.Refusals.{operationsIn}
-use Rattle.trace.proofs.Answered.{HeaderAnswered, header-answered}
+use Rattle.trace.proofs.Answered.{HeaderAnswered, header-answered, ranked-base}
 use Rattle.trace.proofs.Records.{start-inside, length-operations, operations-more}
 use Rattle.reader.specs.declared.ReadAnswer.the-variants.{Read, Refused}
 use Rattle.reader.specs.Answer.{answerOf}
 use Rattle.reader.specs.Premises.{HoldsHeader}
+
+-- ---- as the code tests a record
+
+-- if x, then y
+pub if-then : (x y : Bool) → (not x || y) ≡ cond x y true
+if-then true y = refl
+if-then false y = refl
+
+all-yes : (a b c d e : Bool)
+    → (a && ((b && c) && (d && e))) ≡ eqb (cond a (cond b (cond c (cond d (cond e 0 9) 8) 7) 6) 5) 0
+all-yes false b c d e = refl
+all-yes true false c d e = refl
+all-yes true true false d e = refl
+all-yes true true true false e = refl
+all-yes true true true true false = refl
+all-yes true true true true true = refl
+
+-- no question refuses it exactly if each is answered yes
+passes-asked : (p : ℕ) (before : List Operation) (bytes : List ℕ)
+    → let o = operationIn bytes in
+    (marked base bytes && ((workerKnown p o && kindKnown o) && (eventFits o && cellsFit o)))
+    ≡ eqb (recordQuestion base p before bytes) 0
+unfolding recordQuestion
+passes-asked p before bytes =
+    let o = operationIn bytes in
+    rw (ranked-base _ _) (all-yes (marked base bytes) (workerKnown p o) (kindKnown o) (eventFits o) (cellsFit o))
+
+-- from what the code worked out: each answer, and both of two
+pub passes-told : (p : ℕ) (before : List Operation) (bytes : List ℕ) {o : Operation} → o ≡ operationIn bytes
+    → {mark worker kind event cells first second all r : Bool} → mark ≡ marked base bytes → worker ≡ workerKnown p o
+    → kind ≡ kindKnown o → event ≡ eventFits o → cells ≡ cellsFit o → first ≡ (worker && kind)
+    → second ≡ (event && cells) → all ≡ (first && second) → r ≡ (mark && all)
+    → r ≡ eqb (recordQuestion base p before bytes) 0
+passes-told p before bytes o m w k e c i j l r =
+    r ∙ rw (l, i, j, m, w, k, e, c, o) (passes-asked p before bytes)
 
 -- ---- the header
 

@@ -2,6 +2,7 @@
 ghost use mathlib.Core.List.{List};
 ghost use mathlib.Core.Path.{_≡_};
 ghost use Prim.Native.Nat.{_+_, _≤_};
+ghost use lib.Dec.{eqb};
 ghost use lib.ListN.{length, drop};
 ghost use Rattle.trace.specs.declared.Operation.{Operation};
 ghost use Rattle.trace.specs.Form.{base, recordSize};
@@ -103,20 +104,17 @@ fn kind_known(o: Operation) -> bool
 fn event_fits(o: Operation) -> bool
     ensures { λ r. ⌜ r ≡ eventFits o ⌝ }
 {
-    if trace::is_sync(o.kind) {
-        return o.number <= 255 && o.length == 0;
-    }
-    true
+    let fits = trace::both(o.number <= 255, o.length == 0);
+    trace::either(!trace::is_sync(o.kind), fits)
 }
 
 // Question 9.
 fn cells_fit(o: Operation) -> bool
     ensures { λ r. ⌜ r ≡ cellsFit o ⌝ }
 {
-    if trace::is_access(o.kind) {
-        return 1 <= o.length && (o.number as u64) + (o.length as u64) <= 4294967296;
-    }
-    true
+    let end = (o.number as u64) + (o.length as u64);
+    let fit = trace::both(1 <= o.length, end <= 4294967296);
+    trace::either(!trace::is_access(o.kind), fit)
 }
 
 // Questions 5 to 9 of the record at a place, whatever stands before it; 0 where none refuses.
@@ -143,6 +141,19 @@ fn record_question(file: &[u8], at: usize, p: u8) -> u8
     0
 }
 
+// Does none of questions 5 to 9 refuse the record at a place? All are asked, so that the answer hangs on no branch by
+// the kind.
+fn record_passes(file: &[u8], at: usize, p: u8) -> bool
+    requires { ⌜ at + recordSize base ≤ length (now file) ⌝ }
+    ensures { λ r. ⌜ ((before : List Operation)
+        → r ≡ eqb (recordQuestion base p before (drop at (now (file .entry)))) 0) ⌝ }
+{
+    let o = trace::operation_in(file, at);
+    let kind = trace::both(worker_known(p, o), kind_known(o));
+    let number = trace::both(event_fits(o), cells_fit(o));
+    trace::both(is_marked(file, at), trace::both(kind, number))
+}
+
 // Questions 5 to 9 of each record of a file of p workers and n operations, whose header no question refuses.
 fn read_records(file: &[u8], p: u8, n: u32) -> ReadAnswer
     requires { ⌜ HoldsHeader base (now file) p n ⌝ }
@@ -150,10 +161,10 @@ fn read_records(file: &[u8], p: u8, n: u32) -> ReadAnswer
 {
     let mut k: u32 = 0;
     while k < n {
-        let q = record_question(file, trace::record_start(k as usize), p);
-        if q != 0 {
+        let at = trace::record_start(k as usize);
+        if !record_passes(file, at, p) {
             return ReadAnswer::Refused {
-                number: q,
+                number: record_question(file, at, p),
                 place: k,
             };
         }

@@ -1,6 +1,7 @@
 // The trace file: its mark, its record size, and the operations of a file that questions 1 to 9 do not refuse.
 // The functions with a `requires` are for the crates above: the reader, which asks those questions, and the crates that
 // have had a file read before.
+ghost use mathlib.Core.Bool.{_&&_, _||_};
 ghost use mathlib.Core.Path.{_≡_};
 ghost use Prim.Native.Nat.{_+_, _≤_, _<_};
 ghost use lib.ListN.{length, drop};
@@ -72,6 +73,20 @@ pub fn record_start(k: usize) -> usize
     ensures { λ r. ⌜ r ≡ start base k ⌝ }
 {
     RECORD_SIZE + RECORD_SIZE * k
+}
+
+// Do both hold? With both worked out before, no branch hangs on the one or the other.
+pub fn both(x: bool, y: bool) -> bool
+    ensures { λ r. ⌜ r ≡ x && y ⌝ }
+{
+    x && y
+}
+
+// Does one of them hold?
+pub fn either(x: bool, y: bool) -> bool
+    ensures { λ r. ⌜ r ≡ x || y ⌝ }
+{
+    x || y
 }
 
 // Post or Wait?

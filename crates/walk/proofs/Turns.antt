@@ -1,18 +1,19 @@
 -- A worker's turn. In order: the place where it stops; an operation that passes; while the workers below q are blocked,
 -- the step is worker q's; it goes on alone; the Post that ends its turn; the end of its turn without one.
-use mathlib.Core.Bool.{Bool, true, false, _||_, cond}
+use mathlib.Core.Bool.{Bool, true, false, not, _&&_, _||_, cond}
 use mathlib.Core.List.{List, [], _∷_, _++_, append-assoc}
 use mathlib.Core.Logic.{_⊎_, inl, inr, _≢_}
 use mathlib.Core.Path.{_≡_, refl, sym, ap, _∙_}
-use native.Mathlib.Nat.{add-zero, zero-add, sub-zero}
+use native.Mathlib.Nat.{add-zero, zero-add, sub-zero, mod-eq-of-lt}
 use native.Mathlib.Numerals.{add-one}
 use native.Mathlib.Omega.{arith}
-use Prim.Native.Nat.{ℕ, zero, suc, _+_, _-_, _*_, _<_, _≤_, min, max}
+use Prim.Native.Nat.{ℕ, zero, suc, _+_, _-_, _*_, _%_, _<_, _≤_, min, max}
 use lib.Dec.{eqb}
 use lib.ListN.{length, getD, set, take, drop, length-set, length-drop}
 use lib.Seq.{getD-set-same, getD-set-other, set-set, set-getD, take-suc, getD-drop}
 use borrow.Author.Tests.{eqb-true, lt-ltb, le-ltb}
 use Rattle.runs.proofs.Booleans.{equal?, less?, zero-one}
+use Rattle.trace.specs.declared.Operation.{Operation}
 use Rattle.trace.specs.Reading.{traceOf}
 use Rattle.trace.specs.Trace.{Trace, size, operation, workerOf, isPost, isWait, isSync}
 use Rattle.index.proofs.Lookups.{part-start, places-inside, place-operation, part-rth}
@@ -20,7 +21,7 @@ use Rattle.walk.specs.declared.Walk.{Walk}
 use Rattle.walk.specs.Events.{isPosted, withPost}
 use Rattle.walk.specs.Turns.{passes, Listed, Stop, postsAt, EventAt, Due, Turned}
 use Rattle.walk.specs.Walks.{Fits, Walkable, Placed, stateOf, nextOf, mayRun, move, added, walkFrom, runFrom}
-use Rattle.walk.proofs.EventBits.{posted-again, event-below, trace-fits}
+use Rattle.walk.proofs.EventBits.{posted-again, event-below, sync-below, trace-fits}
 use Rattle.walk.proofs.Moves.{Moved, move-some, move-none, walk-zero, walk-stop, walk-step}
 use Rattle.walk.proofs.Moves.{run-zero, run-stop, run-step}
 use Rattle.walk.proofs.NextOperations.{next-rth, next-found, next-past}
@@ -54,6 +55,19 @@ module _ {t : Trace} {a : ℕ} {events order : List ℕ} {from end at : ℕ} (s 
       record { from-on = s .from-on; up-to = s .up-to; before = s .each; stops = λ l. absurd (omega (arith, l)) }
 
 -- ---- an operation that passes
+
+-- as the code tests it, with its event taken at most 255
+pub passes-test : {t : Trace} → Fits t → (a : ℕ) (events : List ℕ) {k : ℕ} → k < size t → {o : Operation}
+    → o ≡ operation t k
+    → (not (eqb k a) && (not (isSync (o .kind)) || isPosted events (o .number % 256))) ≡ passes t a events k
+unfolding passes
+passes-test {t} f a events {k} l {o} e = rw (← e) (go (eqb k a) (isSync (o .kind)) refl)
+  where
+    go : (x y : Bool) → isSync (o .kind) ≡ y
+        → (not x && (not y || isPosted events (o .number % 256))) ≡ cond x false (cond y (isPosted events (o .number)) true)
+    go true y i = refl
+    go false false i = refl
+    go false true i = rw (mod-eq-of-lt (sync-below f l e i))
 
 -- the code's nest of tests: left out, a Post, a Wait, posted
 nest-may : (x y z u : Bool) → cond x false (cond (y || z) u true) ≡ true → cond x false (cond z u true) ≡ true

@@ -75,14 +75,9 @@ fn passes_on(file: &[u8], left_out: usize, events: &[u64; 4], k: usize) -> bool
     requires { ⌜ Fits (traceOf (now file)) × (k < size (traceOf (now file))) ⌝ }
     ensures { λ r. ⌜ r ≡ passes (traceOf (now (file .entry))) «left_out» (now (events .entry)) k ⌝ }
 {
-    if k == left_out {
-        return false;
-    }
     let o = trace::operation_of(file, k);
-    if trace::is_sync(o.kind) {
-        return is_posted(events, o.number);
-    }
-    true
+    let posted = is_posted(events, o.number % 256);
+    trace::both(k != left_out, trace::either(!trace::is_sync(o.kind), posted))
 }
 
 // The first place from `from` on, below `end`, whose operation does not pass.
