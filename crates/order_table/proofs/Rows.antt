@@ -77,10 +77,10 @@ module _ (p k : ℕ) (counts table : List ℕ) (long : length counts ≡ p) (roo
       let j = i - (k * p + p) in
       let e : k * p + (p + j) ≡ i = omega (arith, l) in
       rw e at (
-        rw front at (getD-append-add (take (k * p) table) (counts ++ rest) (p + j) 0)
-        ∙ (rw long at (getD-append-add counts rest j 0))
-        ∙ getD-drop p (drop (k * p) table) j 0
-        ∙ getD-drop (k * p) table (p + j) 0)
+      rw front at (getD-append-add (take (k * p) table) (counts ++ rest) (p + j) 0)
+      ∙ (rw long at (getD-append-add counts rest j 0))
+      ∙ getD-drop p (drop (k * p) table) j 0
+      ∙ getD-drop (k * p) table (p + j) 0)
 
 -- ---- the rows of one operation more
 
@@ -135,8 +135,8 @@ module _ {bytes : List ℕ} {p n : ℕ} {order starts : List ℕ} (h : HoldsTrac
           earlier-place d = elim (equal? (placeOf t starts x) at) [
             | inl z ↦
                 let same : x ≡ k = sym (place-in x below .1)
-                    ∙ ap (λ (y : ℕ). getD order y 0) (z ∙ sym e)
-                    ∙ place-in k l .1 in
+                ∙ ap (λ (y : ℕ). getD order y 0) (z ∙ sym e)
+                ∙ place-in k l .1 in
                 absurd (d same)
             | inr z ↦ omega (arith, m, z)
           ]
@@ -160,8 +160,8 @@ module _ {bytes : List ℕ} {p n : ℕ} {order starts : List ℕ} (h : HoldsTrac
           let below : k < size t = div-lt-iff-lt-mul some .1 l in
           let lower : q < w = mod-lt j some in
           rw same at (
-            r .rows k q below (omega (arith, e, place-in k below .0)) lower
-            ∙ sym (rows-entry t k q (drop (length (orderTable t)) old) below lower))
+          r .rows k q below (omega (arith, e, place-in k below .0)) lower
+          ∙ sym (rows-entry t k q (drop (length (orderTable t)) old) below lower))
         where
           h-some : 0 < w
           h-some = rw (h .workers) (h .some)

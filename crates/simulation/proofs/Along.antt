@@ -125,7 +125,7 @@ module _ {t : Trace} (f : Fits t) {a : ℕ} where
       longer =
           let whole = complete-means t .1 complete in
           let y = exchange (rule-monotone t) (x .maximal .is-run) (whole .is-run) (whole .holds a below)
-              (x .maximal .lacks) in
+          (x .maximal .lacks) in
           rw (x .maximal .maximal (y .0) (y .2)) at (y .2)
 
       -- and the run with it lacks the worker's later operations
@@ -138,7 +138,7 @@ module _ {t : Trace} (f : Fits t) {a : ℕ} where
               later : b ∉ x .run
               later m =
                   let before = run-means t .0 (x .maximal .is-run) .earlier-before m
-                      (record { same-worker = e; lower = l }) in
+                  (record { same-worker = e; lower = l }) in
                   x .maximal .lacks (before-first before)
 
           ends : Ends t (x .run ++ a ∷ []) (added t w a)

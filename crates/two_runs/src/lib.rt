@@ -61,7 +61,16 @@ fn write_walk(
     while q < p {
         let from = walk::next_place(starts, &done, q);
         let left = part.len() - at;
-        let next = walk::turn(file, order, starts, left_out, left, q, &mut done, &mut events);
+        let next = walk::turn(
+            file,
+            order,
+            starts,
+            left_out,
+            left,
+            q,
+            &mut done,
+            &mut events,
+        );
         let end = at + (walk::next_place(starts, &done, q) - from);
         copy_places(order, from, &mut part[at..end]);
         at = end;

@@ -8,10 +8,10 @@ use native.Mathlib.Nat.{add-zero, zero-add, sub-zero, mod-eq-of-lt}
 use native.Mathlib.Numerals.{add-one}
 use native.Mathlib.Omega.{arith}
 use Prim.Native.Nat.{ℕ, zero, suc, _+_, _-_, _*_, _%_, _<_, _≤_, min, max}
-use lib.Dec.{eqb}
-use lib.ListN.{length, getD, set, take, drop, length-set, length-drop}
+use lib.Dec.{eqb, leb, ltb}
+use lib.ListN.{length, getD, set, take, drop, replicate, length-set, length-drop}
 use lib.Seq.{getD-set-same, getD-set-other, set-set, set-getD, take-suc, getD-drop}
-use borrow.Author.Tests.{eqb-true, lt-ltb, le-ltb}
+use borrow.Author.Tests.{eqb-true, eq-eqb, ne-eqb, lt-ltb, le-ltb, lt-leb, le-leb, not-true}
 use Rattle.runs.proofs.Booleans.{equal?, less?, zero-one}
 use Rattle.trace.specs.declared.Operation.{Operation}
 use Rattle.trace.specs.Reading.{traceOf}
@@ -19,9 +19,10 @@ use Rattle.trace.specs.Trace.{Trace, size, operation, workerOf, isPost, isWait,
 use Rattle.index.proofs.Lookups.{part-start, places-inside, place-operation, part-rth}
 use Rattle.walk.specs.declared.Walk.{Walk}
 use Rattle.walk.specs.Events.{isPosted, withPost}
-use Rattle.walk.specs.Turns.{passes, Listed, Stop, postsAt, EventAt, Due, Turned}
+use Rattle.walk.specs.Turns.{passes, Listed, Stop, postsAt, EventAt, Why, nothing, waits, ends}
+use Rattle.walk.specs.Turns.{Noted, held, noteAt, Due, Turned}
 use Rattle.walk.specs.Walks.{Fits, Walkable, Placed, stateOf, nextOf, mayRun, move, added, walkFrom, runFrom}
-use Rattle.walk.proofs.EventBits.{posted-again, event-below, sync-below, trace-fits}
+use Rattle.walk.proofs.EventBits.{zeros, posted-again, event-below, sync-below, trace-fits}
 use Rattle.walk.proofs.Moves.{Moved, move-some, move-none, walk-zero, walk-stop, walk-step}
 use Rattle.walk.proofs.Moves.{run-zero, run-stop, run-step}
 use Rattle.walk.proofs.NextOperations.{next-rth, next-found, next-past}
@@ -131,6 +132,15 @@ module _ (t : Trace) (a : ℕ) (events : List ℕ) (k : ℕ) (l : k < size t) wh
 none-may : (t : Trace) (a : ℕ) (events : List ℕ) → mayRun t a events (size t) ≡ false
 unfolding mayRun
 none-may t a events = rw (le-ltb (size t) (size t) (omega arith))
+
+-- nor may the operation left out
+left-out-may : (t : Trace) (a : ℕ) (events : List ℕ) → mayRun t a events a ≡ false
+unfolding mayRun
+left-out-may t a events = rw (eq-eqb a a refl) (go (ltb a (size t)))
+  where
+    go : (x : Bool) → cond x false false ≡ false
+    go true = refl
+    go false = refl
 
 -- ---- while the workers below q are blocked, the step is worker q's
 
@@ -451,6 +461,31 @@ module _ {bytes order starts : List ℕ} (x : Placed bytes order starts) {q : �
             | inr i ↦ up .due .below z r (omega (arith, l, i))
           ]
 
+      -- its note: the Wait that it stops at, or that nothing is left but what is left out
+      pub why-on : Why t a (ahead w q m) (noteAt t order a last end at) q
+      unfolding noteAt
+      why-on = go (less? at end)
+        where
+          go : (at < end) ⊎ (end ≤ at) → Why t a (ahead w q m) (noteAt t order a last end at) q
+          go (inl l) = rw (lt-ltb at end l) (stopped (eqb k a) refl (isWait (operation t k .kind)) refl)
+            where
+              wait-event : isWait (operation t k .kind) ≡ true → operation t k .number < 256
+              wait-event i =
+                  let two = eqb-true (operation t k .kind) 2 i in
+                  event-below (trace-fits (x .holds)) (there l) refl (omega (arith, two)) (omega (arith, two))
+
+              stopped : (b : Bool) → eqb k a ≡ b → (c : Bool) → isWait (operation t k .kind) ≡ c
+                  → Why t a (ahead w q m) (cond b 257 (cond c (operation t k .number + 1) 0)) q
+              stopped true i c j = ends refl (inr (next-there l ∙ eqb-true k a i))
+              stopped false i true j =
+                  waits (operation t k .number) (omega arith) (wait-event j) (rw (next-there l) j) (rw (next-there l))
+              stopped false i false j = nothing refl
+          go (inr l) = rw (le-ltb at end l) (part-end (less? at last))
+            where
+              part-end : (at < last) ⊎ (last ≤ at) → Why t a (ahead w q m) (cond (leb last at) 257 0) q
+              part-end (inl i) = rw (lt-leb last at i) (nothing refl)
+              part-end (inr i) = rw (le-leb last at i) (ends refl (inl (next-out m (omega (arith, i, at-is)))))
+
 -- ---- turn by turn
 
 -- the walk from `start`, of n steps, is at w: `left` steps are left, and it is worker q's turn
@@ -494,7 +529,97 @@ way-end {left = left} s l = sym (s .walks ∙ due-end left (s .due) l .0)
 -- what a turn asks of the file
 pub way-asks : {bytes : List ℕ} {p n : ℕ} {order starts : List ℕ} → Walkable bytes p n order starts
     → {a : ℕ} {start : Walk} {m : ℕ} {w : Walk} {left q : ℕ} → OnTheWay (traceOf bytes) a start m w left q → q < p
+    → {notes : List ℕ} → Noted (traceOf bytes) a w notes
     → Placed bytes order starts × (q < traceOf bytes .workers) × (length (w .done) ≡ 16)
-    × Due (traceOf bytes) a left w q
-way-asks x s l =
-    (rw (x .holds .workers, x .holds .count) x, rw (x .holds .workers) l, s .counters, s .due)
+    × Due (traceOf bytes) a left w q × Noted (traceOf bytes) a w notes
+way-asks x s l noted =
+    (rw (x .holds .workers, x .holds .count) x, rw (x .holds .workers) l, s .counters, s .due, noted)
+
+-- ---- notes
+
+-- at the start nothing is noted
+pub noted-start : (t : Trace) (a : ℕ) (w : Walk) → Noted t a w (replicate 16 0)
+noted-start t a w = record { entries = refl; why = λ r l. nothing (zeros 16 r) }
+
+-- a Wait of an event that is not posted may not run
+wait-blocked : (t : Trace) (a : ℕ) (events : List ℕ) (k : ℕ) {e : ℕ} → isWait (operation t k .kind) ≡ true
+    → operation t k .number ≡ e → isPosted events e ≡ false → mayRun t a events k ≡ false
+unfolding mayRun
+wait-blocked t a events k wait number none = rw (wait, number, none) (go (ltb k (size t)) (eqb k a))
+  where
+    go : (x y : Bool) → cond x (cond y false false) false ≡ false
+    go true true = refl
+    go true false = refl
+    go false y = refl
+
+held-nothing : (events : List ℕ) → held 0 events ≡ true → ⊥
+unfolding held
+held-nothing events h = zero-one cc
+
+held-event : (e : ℕ) (events : List ℕ) → e < 256 → held (suc e) events ≡ true → isPosted events e ≡ false
+unfolding held
+held-event e events l h =
+    let note : ltb (suc e) 257 ≡ true = lt-ltb (suc e) 257 (omega (arith, l)) in
+    let some : eqb (suc e) 0 ≡ false = ne-eqb (suc e) 0 (λ z. omega (arith, z)) in
+    let same : (suc e - 1) % 256 ≡ e = omega (arith, l) in
+    not-true (isPosted events e) (rw (some, note, same) at h)
+
+-- a worker that its note holds cannot go on
+pub noted-held : {t : Trace} {a : ℕ} {w : Walk} {notes : List ℕ} → Noted t a w notes → {q : ℕ} → q < t .workers
+    → held (getD notes q 0) (w .events) ≡ true → mayRun t a (w .events) (nextOf t w q) ≡ false
+noted-held {t} {a} {w} {notes} s {q} l h = go (s .why q l)
+  where
+    go : Why t a w (getD notes q 0) q → mayRun t a (w .events) (nextOf t w q) ≡ false
+    go (nothing e) = absurd (held-nothing (w .events) (rw e at h))
+    go (waits e i m wait number) =
+        wait-blocked t a (w .events) (nextOf t w q) wait number (held-event e (w .events) m (rw i at h))
+    go (ends e (inl i)) = rw i (none-may t a (w .events))
+    go (ends e (inr i)) = rw i (left-out-may t a (w .events))
+
+-- it takes no step, and the next worker's turn follows
+pub turned-held : {t : Trace} {a left : ℕ} (order : List ℕ) (from : ℕ) {w : Walk} {q : ℕ} {notes : List ℕ}
+    → Due t a left w q → Noted t a w notes → q < t .workers → held (getD notes q 0) (w .events) ≡ true
+    → Turned t a left order from w q w (q + 1)
+turned-held {t} {a} {left} order from {w} {q} d s l h =
+    record {
+      taken = 0;
+      few = omega arith;
+      inside = λ z. absurd (omega (arith, z));
+      counters = refl;
+      count = omega arith;
+      walks = λ s. rw zero-add;
+      adds = λ s. rw zero-add;
+      due = rw sub-zero (record { below = below });
+      on = inl refl;
+    }
+  where
+    below : 0 < left → (r : ℕ) → r < q + 1 → mayRun t a (w .events) (nextOf t w r) ≡ false
+    below z r m = elim (equal? r q) [
+      | inl i ↦ rw i (noted-held s l h)
+      | inr i ↦ d .below z r (omega (arith, m, i))
+    ]
+
+-- the others' notes stay when worker q's counts and the events change
+why-same : {t : Trace} {a : ℕ} {w w′ : Walk} {note r : ℕ} → nextOf t w′ r ≡ nextOf t w r → Why t a w note r
+    → Why t a w′ note r
+why-same e (nothing i) = nothing i
+why-same e (waits x i l wait number) = waits x i l (rw e wait) (rw e number)
+why-same e (ends i z) = ends i (rw e z)
+
+next-same : (t : Trace) (done : List ℕ) (q x r : ℕ) → r ≢ q → (events events′ : List ℕ)
+    → nextOf t (stateOf (set done q x) events′) r ≡ nextOf t (stateOf done events) r
+unfolding nextOf
+next-same t done q x r d events events′ = rw (getD-set-other done q r x 0 d)
+
+pub noted-set : {t : Trace} {a : ℕ} {done events notes : List ℕ} → Noted t a (stateOf done events) notes → {q : ℕ}
+    → q < t .workers → t .workers ≤ 16 → (x : ℕ) {events′ : List ℕ} {note : ℕ}
+    → Why t a (stateOf (set done q x) events′) note q
+    → Noted t a (stateOf (set done q x) events′) (set notes q note)
+noted-set {t} {a} {done} {events} {notes} s {q} l most x {events′} {note} y =
+    record { entries = length-set notes q note ∙ s .entries; why = why }
+  where
+    why : (r : ℕ) → r < t .workers → Why t a (stateOf (set done q x) events′) (getD (set notes q note) r 0) r
+    why r m = elim (equal? r q) [
+      | inl i ↦ rw (i, getD-set-same notes q note 0 (omega (arith, l, most, s .entries))) y
+      | inr d ↦ rw (getD-set-other notes q r note 0 d) (why-same (next-same t done q x r d events events′) (s .why r m))
+    ]

@@ -2,14 +2,14 @@
 -- Follows: document 01, "Two runs" ("the lowest-numbered worker whose next operation may run"): while the workers below
 -- q are blocked, worker q goes on, and they stay blocked until it posts an event that was not posted.
 -- Differs: nowhere. A means: the laws in proofs/Turns show that turn by turn the steps of specs/Walks are taken.
-use mathlib.Core.Bool.{Bool, true, false, cond}
+use mathlib.Core.Bool.{Bool, true, false, not, cond}
 use mathlib.Core.List.{List, _++_}
 use mathlib.Core.Logic.{_⊎_}
 use mathlib.Core.Path.{_≡_}
-use Prim.Native.Nat.{ℕ, _+_, _-_, _<_, _≤_, max}
-use lib.Dec.{eqb, ltb}
+use Prim.Native.Nat.{ℕ, suc, _+_, _-_, _%_, _<_, _≤_, max}
+use lib.Dec.{eqb, leb, ltb}
 use lib.ListN.{length, getD, take, drop}
-use Rattle.trace.specs.Trace.{Trace, size, operation, isPost, isSync}
+use Rattle.trace.specs.Trace.{Trace, size, operation, isPost, isWait, isSync}
 use Rattle.walk.specs.declared.Walk.{Walk}
 use Rattle.walk.specs.Events.{isPosted}
 use Rattle.walk.specs.Walks.{nextOf, mayRun, walkFrom, runFrom}
@@ -44,6 +44,30 @@ pub record EventAt (t : Trace) (order : List ℕ) (at : ℕ) : Type 0 where
   pub inside : at < 1024
   pub below : getD order at 0 < size t
   pub event : operation t (getD order at 0) .number < 256
+
+-- Notes, one for each worker, say why it stopped: 0, nothing noted; e + 1, its next operation is a Wait of event e; 257,
+-- it has none left, or its next one is left out.
+pub data Why (t : Trace) (a : ℕ) (w : Walk) (note r : ℕ) : Type 0 where
+  nothing : note ≡ 0 → Why t a w note r
+  waits : (e : ℕ) → note ≡ suc e → e < 256 → isWait (operation t (nextOf t w r) .kind) ≡ true
+      → operation t (nextOf t w r) .number ≡ e → Why t a w note r
+  ends : note ≡ 257 → (nextOf t w r ≡ size t) ⊎ (nextOf t w r ≡ a) → Why t a w note r
+
+pub record Noted (t : Trace) (a : ℕ) (w : Walk) (notes : List ℕ) : Type 0 where
+  pub entries : length notes ≡ 16
+  pub why : (r : ℕ) → r < t .workers → Why t a w (getD notes r 0) r
+
+-- by its note, a worker cannot go on
+unfoldable pub held : ℕ → List ℕ → Bool
+held note events = cond (eqb note 0) false (cond (ltb note 257) (not (isPosted events ((note - 1) % 256))) true)
+
+-- the note of a worker that stops at place `at`: by the operation there, below `end`; or at `last`, the end of its part
+unfoldable pub noteAt : Trace → List ℕ → ℕ → ℕ → ℕ → ℕ → ℕ
+noteAt t order a last end at =
+    let k = getD order at 0 in
+    cond (ltb at end)
+    (cond (eqb k a) 257 (cond (isWait (operation t k .kind)) (operation t k .number + 1) 0))
+    (cond (leb last at) 257 0)
 
 -- it is worker q's turn: where steps are left, no worker below q can take one
 pub record Due (t : Trace) (a left : ℕ) (w : Walk) (q : ℕ) : Type 0 where

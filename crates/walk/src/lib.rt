@@ -6,7 +6,8 @@ ghost use lib.ListN.{length, getD, set};
 ghost use Rattle.trace.specs.Reading.{traceOf};
 ghost use Rattle.trace.specs.Trace.{size, operation, workerOf, isPost};
 ghost use Rattle.walk.specs.Events.{isPosted, withPost};
-ghost use Rattle.walk.specs.Turns.{Listed, passes, Stop, postsAt, EventAt, Due, Turned};
+ghost use Rattle.walk.specs.Turns.{Listed, passes, Stop, postsAt, EventAt, Noted, held, noteAt};
+ghost use Rattle.walk.specs.Turns.{Due, Turned};
 ghost use Rattle.walk.specs.Walks.{Fits, Walkable, Placed, startWalk, stateOf, nextOf, added, walkFrom, lowestLeft};
 
 // How many operations each worker has done, and the set of posted events: event e is bit e % 64 of word e / 64.
@@ -77,7 +78,10 @@ fn passes_on(file: &[u8], left_out: usize, events: &[u64; 4], k: usize) -> bool
 {
     let o = trace::operation_of(file, k);
     let posted = is_posted(events, o.number % 256);
-    trace::both(k != left_out, trace::either(!trace::is_sync(o.kind), posted))
+    trace::both(
+        k != left_out,
+        trace::either(!trace::is_sync(o.kind), posted),
+    )
 }
 
 // The first place from `from` on, below `end`, whose operation does not pass.
@@ -179,27 +183,75 @@ pub fn add(file: &[u8], k: usize, done: &mut [u16; 16], events: &mut [u64; 4]) -
     false
 }
 
-// Worker q's turn, of at most `left` operations: it goes on while its operations pass, and takes a Post of an event
-// that is not posted. Answers whose turn it is then: worker 0's after such a Post, which may have freed others, and
-// otherwise the next worker's.
-pub fn turn(
+// Can a worker with this note not go on? The note names an event that is not posted, or says that it is at its end.
+fn is_held(note: u16, events: &[u64; 4]) -> bool
+    ensures { λ r. ⌜ r ≡ held note (now (events .entry)) ⌝ }
+{
+    if note == 0 {
+        return false;
+    }
+    if note < 257 {
+        return !is_posted(events, ((note - 1) as u32) % 256);
+    }
+    true
+}
+
+// The note of worker q, which stops at a place: by the operation there, below `end`, or at the end of its part.
+fn note_at(
+    file: &[u8],
+    order: &[u16; 1024],
+    starts: &[u16; 17],
+    left_out: usize,
+    q: usize,
+    end: usize,
+    at: usize,
+) -> u16
+    requires { ⌜ Fits (traceOf (now file)) × Listed (traceOf (now file)) (now order) «end» × (q < 16) ⌝ }
+    ensures { λ r. ⌜ r ≡ noteAt (traceOf (now (file .entry))) (now (order .entry)) «left_out»
+        (getD (now (starts .entry)) (q + 1) 0) «end» at ⌝ }
+{
+    if at < end {
+        let k = wide(order[at]);
+        if k == left_out {
+            return 257;
+        }
+        let o = trace::operation_of(file, k);
+        if o.kind == 2 {
+            return (o.number + 1) as u16;
+        }
+        return 0;
+    }
+    if wide(starts[q + 1]) <= at {
+        return 257;
+    }
+    0
+}
+
+// Worker q goes on, by at most `left` operations: while its operations pass, and through a Post of an event that is not
+// posted. Answers whose turn it is then: worker 0's after such a Post, which may have freed others, and otherwise the
+// next worker's.
+fn go_on(
     file: &[u8],
     order: &[u16; 1024],
     starts: &[u16; 17],
     left_out: usize,
     left: usize,
     q: usize,
+    notes: &mut [u16; 16],
     done: &mut [u16; 16],
     events: &mut [u64; 4],
 ) -> usize
     requires { ⌜ Placed (now file) (now order) (now starts)
         × (q < traceOf (now file) .workers)
         × (length (now done) ≡ 16)
-        × Due (traceOf (now file)) «left_out» «left» (stateOf (now done) (now events)) q ⌝ }
+        × Due (traceOf (now file)) «left_out» «left» (stateOf (now done) (now events)) q
+        × Noted (traceOf (now file)) «left_out» (stateOf (now done) (now events)) (now notes) ⌝ }
     ensures { λ r. ⌜ Turned (traceOf (now (file .entry))) «left_out» «left» (now (order .entry))
         (getD (now (starts .entry)) q 0 + getD (now (done .entry)) q 0)
         (stateOf (now (done .entry)) (now (events .entry))) q
-        (stateOf (now (done .exit)) (now (events .exit))) r ⌝ }
+        (stateOf (now (done .exit)) (now (events .exit))) r
+        × Noted (traceOf (now (file .entry))) «left_out» (stateOf (now (done .exit)) (now (events .exit)))
+        (now (notes .exit)) ⌝ }
 {
     let from = next_place(starts, done, q);
     let end = limit(starts, q, from, left);
@@ -207,10 +259,42 @@ pub fn turn(
     if posts_at(file, order, left_out, end, at) {
         post_at(file, order, at, events);
         advance(done, q, at + 1 - from);
+        notes[q] = 0;
         return 0;
     }
+    notes[q] = note_at(file, order, starts, left_out, q, end, at);
     advance(done, q, at - from);
     q + 1
+}
+
+// Worker q's turn: it goes on, unless its note holds it.
+pub fn turn(
+    file: &[u8],
+    order: &[u16; 1024],
+    starts: &[u16; 17],
+    left_out: usize,
+    left: usize,
+    q: usize,
+    notes: &mut [u16; 16],
+    done: &mut [u16; 16],
+    events: &mut [u64; 4],
+) -> usize
+    requires { ⌜ Placed (now file) (now order) (now starts)
+        × (q < traceOf (now file) .workers)
+        × (length (now done) ≡ 16)
+        × Due (traceOf (now file)) «left_out» «left» (stateOf (now done) (now events)) q
+        × Noted (traceOf (now file)) «left_out» (stateOf (now done) (now events)) (now notes) ⌝ }
+    ensures { λ r. ⌜ Turned (traceOf (now (file .entry))) «left_out» «left» (now (order .entry))
+        (getD (now (starts .entry)) q 0 + getD (now (done .entry)) q 0)
+        (stateOf (now (done .entry)) (now (events .entry))) q
+        (stateOf (now (done .exit)) (now (events .exit))) r
+        × Noted (traceOf (now (file .entry))) «left_out» (stateOf (now (done .exit)) (now (events .exit)))
+        (now (notes .exit)) ⌝ }
+{
+    if is_held(notes[q], events) {
+        return q + 1;
+    }
+    go_on(file, order, starts, left_out, left, q, notes, done, events)
 }
 
 // Goes on with a walk, which leaves out one operation, to its end. Where the number left out is n, which no operation
@@ -222,18 +306,23 @@ pub fn walk_on(
     order: &[u16; 1024],
     starts: &[u16; 17],
     left_out: usize,
+    notes: &mut [u16; 16],
     done: &mut [u16; 16],
     events: &mut [u64; 4],
 )
-    requires { ⌜ Walkable (now file) p n (now order) (now starts) × (length (now done) ≡ 16) ⌝ }
-    ensures { λ r. ⌜ stateOf (now (done .exit)) (now (events .exit))
-        ≡ walkFrom (traceOf (now (file .entry))) «left_out» (stateOf (now (done .entry)) (now (events .entry))) n ⌝ }
+    requires { ⌜ Walkable (now file) p n (now order) (now starts)
+        × (length (now done) ≡ 16)
+        × Noted (traceOf (now file)) «left_out» (stateOf (now done) (now events)) (now notes) ⌝ }
+    ensures { λ r. ⌜ (stateOf (now (done .exit)) (now (events .exit))
+        ≡ walkFrom (traceOf (now (file .entry))) «left_out» (stateOf (now (done .entry)) (now (events .entry))) n)
+        × Noted (traceOf (now (file .entry))) «left_out» (stateOf (now (done .exit)) (now (events .exit)))
+        (now (notes .exit)) ⌝ }
 {
     let mut left = n;
     let mut q: usize = 0;
     while q < p {
         let before = wide(done[q]);
-        let next = turn(file, order, starts, left_out, left, q, done, events);
+        let next = turn(file, order, starts, left_out, left, q, notes, done, events);
         left -= wide(done[q]) - before;
         q = next;
     }
@@ -254,7 +343,18 @@ pub fn walk_from(
 {
     let mut done = start.done;
     let mut events = start.events;
-    walk_on(file, p, n, order, starts, left_out, &mut done, &mut events);
+    let mut notes = [0u16; 16];
+    walk_on(
+        file,
+        p,
+        n,
+        order,
+        starts,
+        left_out,
+        &mut notes,
+        &mut done,
+        &mut events,
+    );
     Walk {
         done: done,
         events: events,

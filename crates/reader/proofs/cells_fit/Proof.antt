@@ -33,7 +33,7 @@ unfolding cellsFit
 returns c =
     let c2 = c .before .before in
     let o = c2 .before .before .before .before .args .o in
-    c .either .ensures ∙ rw (c .before .is-access .ensures, c2 .both .ensures) 
+    c .either .ensures ∙ rw (c .before .is-access .ensures, c2 .both .ensures)
     (if-then (isAccess (o .kind)) (leb 1 (o .length) && leb (o .number + o .length) 4294967296))
 
 pub cells-fit-spec : {M : Type 1} → statement M

@@ -23,7 +23,7 @@ unfolding eventFits
 returns c =
     let c2 = c .before .before in
     let o = c2 .before .before .before .args .o in
-    c .either .ensures ∙ rw (c .before .is-sync .ensures, c2 .both .ensures) 
+    c .either .ensures ∙ rw (c .before .is-sync .ensures, c2 .both .ensures)
     (if-then (isSync (o .kind)) (leb (o .number) 255 && eqb (o .length) 0))
 
 pub event-fits-spec : {M : Type 1} → statement M

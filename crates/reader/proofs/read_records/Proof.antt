@@ -69,8 +69,7 @@ loop-again c =
     let c4 = c3 .before in
     let c6 = c4 .before .before in
     let here = record-passes base _ _ _ (c6 .pre) _ _ 0 (c3 .loop-test .taken) (c2 .record-start .ensures) in
-    let yes = not-false _ (c .if1 .left) in
-    (
+    let yes = not-false _ (c .if1 .left) in (
       omega arith,
       c4 .loop .inv .1 ∙ here (λ before. sym (eqb-true _ 0 (sym (c1 .record-passes .ensures before) ∙ yes))) refl,
     )

@@ -15,11 +15,11 @@ use Rattle.two_runs.proofs.write_walk.Statement.{statement}
 use Rattle.two_runs.proofs.write_walk.Tie as tie
 
 abbrev Inv-loop : tie.InvT-loop
-Inv-loop file p n order starts left-out part₀ done₀ events₀ at₀ q₀ part done events at q = 
+Inv-loop file p n order starts left-out part₀ done₀ events₀ at₀ q₀ part done events at q =
     WalkedSoFar (traceOf file) left-out (stateOf done₀ events₀) part₀ (stateOf done events) at q part
 
 abbrev μ-loop : tie.MeasureT-loop
-μ-loop file p n order starts left-out part₀ done₀ events₀ at₀ q₀ part done events at q = 
+μ-loop file p n order starts left-out part₀ done₀ events₀ at₀ q₀ part done events at q =
     (length part₀ - at) * 17 + (p - q)
 
 loop-holds : tie.Need-loop-holds Inv-loop μ-loop

@@ -1,23 +1,25 @@
--- `walk_on` meets its contract. The invariant: the walk is on its way, with `left` steps left, and it is worker q's
--- turn. Assumes nothing.
+-- `walk_on` meets its contract. The invariant: the walk is on its way, with `left` steps left, it is worker q's turn, and
+-- the notes are right. Assumes nothing.
 use native.Mathlib.Omega.{arith}
 use Prim.Native.Nat.{_+_, _-_, _*_}
 use borrow.Author.Needs.{needs}
 use Rattle.trace.specs.Reading.{traceOf}
+use Rattle.walk.specs.Turns.{Noted}
 use Rattle.walk.specs.Walks.{stateOf}
 use Rattle.walk.proofs.Turns.{OnTheWay, way-start, way-few, way-turn, way-less, way-end, way-asks}
 use Rattle.walk.proofs.walk_on.Statement.{statement}
 use Rattle.walk.proofs.walk_on.Tie as tie
 
 abbrev Inv-loop : tie.InvT-loop
-Inv-loop file p n order starts left-out done₀ events₀ left₀ q₀ done events left q =
+Inv-loop file p n order starts left-out notes₀ done₀ events₀ left₀ q₀ notes done events left q = 
     OnTheWay (traceOf file) left-out (stateOf done₀ events₀) left₀ (stateOf done events) left q
+    × Noted (traceOf file) left-out (stateOf done events) notes
 
 abbrev μ-loop : tie.MeasureT-loop
-μ-loop file p n order starts left-out done₀ events₀ left₀ q₀ done events left q = left * 17 + (p - q)
+μ-loop file p n order starts left-out notes₀ done₀ events₀ left₀ q₀ notes done events left q = left * 17 + (p - q)
 
 loop-holds : tie.Need-loop-holds Inv-loop μ-loop
-loop-holds c = way-start _ _ _ (c .before .pre .1)
+loop-holds c = (way-start _ _ _ (c .before .pre .1), c .before .pre .2)
 
 mul-wide : tie.Need-mul-wide Inv-loop μ-loop
 mul-wide c = search needs
@@ -30,16 +32,18 @@ wide-requires c κs = search needs
 
 turn-requires : tie.Need-turn-requires Inv-loop μ-loop
 turn-requires c κs =
-    let c5 = c .before .before .before .before .before in
-    way-asks (c5 .before .before .pre .0) (c5 .loop .inv) (c .before .before .before .before .loop-test .taken)
+    let c6 = c .before .before .before .before .before .before in
+    let (way, noted) = c6 .loop .inv in
+    let test = c .before .before .before .before .before .loop-test .taken in
+    way-asks (c6 .before .before .pre .0) way test noted
 
 mul-wide-2 : tie.Need-mul-wide-2 Inv-loop μ-loop
 mul-wide-2 c = search needs
 
 element-copy-out-wide-2 : tie.Need-element-copy-out-wide-2 Inv-loop μ-loop
 element-copy-out-wide-2 c =
-    let c5 = c .before .before .before .before .before in
-    omega (arith, c5 .loop-test .taken, c5 .before .before .before .pre .0 .holds .most)
+    let c6 = c .before .before .before .before .before .before in
+    omega (arith, c6 .loop-test .taken, c6 .before .before .before .pre .0 .holds .most)
 
 wide-requires-2 : tie.Need-wide-requires-2 Inv-loop μ-loop
 wide-requires-2 c κs = search needs
@@ -47,40 +51,42 @@ wide-requires-2 c κs = search needs
 sub-left : tie.Need-sub-left Inv-loop μ-loop
 sub-left c =
     let c2 = c .before .before in
-    let more = c2 .turn .ensures .count in
+    let more = c2 .turn .ensures .0 .count in
     let now = c .wide2 .ensures .0 in
-    let was = c2 .before .before .before .wide .ensures .0 in
+    let was = c2 .before .before .before .before .wide .ensures .0 in
     search needs
 
 sub-left-2 : tie.Need-sub-left-2 Inv-loop μ-loop
 sub-left-2 c =
     let c2 = c .before .before in
-    let c5 = c2 .before .before .before in
-    let few = way-few (c5 .before .before .before .loop .inv) (c2 .turn .ensures) in
+    let c6 = c2 .before .before .before .before in
+    let few = way-few (c6 .before .before .before .loop .inv .0) (c2 .turn .ensures .0) in
     let now = c .wide2 .ensures .0 in
-    let was = c5 .wide .ensures .0 in
+    let was = c6 .wide .ensures .0 in
     search needs
 
 loop-less : tie.Need-loop-less Inv-loop μ-loop
 loop-less c =
     let c2 = c .before .before in
-    let c5 = c2 .before .before .before in
-    let c8 = c5 .before .before .before in
-    let most = c8 .before .before .pre .0 .holds .most in
-    rw (c .wide2 .ensures .0, c5 .wide .ensures .0)
-    (way-less (c8 .loop .inv) (c2 .turn .ensures) most (c5 .before .before .loop-test .taken))
+    let c6 = c2 .before .before .before .before in
+    let c9 = c6 .before .before .before in
+    let most = c9 .before .before .pre .0 .holds .most in
+    rw (c .wide2 .ensures .0, c6 .wide .ensures .0)
+    (way-less (c9 .loop .inv .0) (c2 .turn .ensures .0) most (c6 .before .before .loop-test .taken))
 
 loop-again : tie.Need-loop-again Inv-loop μ-loop
 loop-again c =
     let c2 = c .before .before in
-    let c5 = c2 .before .before .before in
-    rw (c .wide2 .ensures .0, c5 .wide .ensures .0)
-    (way-turn (c5 .before .before .before .loop .inv) (c2 .turn .ensures))
+    let c6 = c2 .before .before .before .before in
+    rw (c .wide2 .ensures .0, c6 .wide .ensures .0)
+    (way-turn (c6 .before .before .before .loop .inv .0) (c2 .turn .ensures .0), c2 .turn .ensures .1)
 
 returns : tie.Need-returns Inv-loop μ-loop
 returns c =
     let holds = c .before .before .before .pre .0 .holds in
-    way-end (c .before .loop .inv) (omega (arith, c .loop-test .left, holds .workers))
+    let (way, noted) = c .before .loop .inv in
+    let end = way-end way (omega (arith, c .loop-test .left, holds .workers)) in
+    (end, noted)
 
 pub walk-on-spec : {M : Type 1} → statement M
 walk-on-spec =
