@@ -4,6 +4,7 @@ ghost use Prim.Native.Nat.{_*_, _<_, _≤_};
 ghost use lib.ListN.{length, take};
 ghost use Rattle.trace.specs.Premises.{HoldsTrace};
 ghost use Rattle.trace.specs.Reading.{traceOf};
+ghost use Rattle.walk.specs.Turns.{Noted};
 ghost use Rattle.walk.specs.Walks.{Walkable, stateOf};
 ghost use Rattle.simulation.specs.Shows.{Exhausted, Kept};
 ghost use Rattle.accept.specs.Acceptance.{AcceptedTrace};
@@ -56,15 +57,18 @@ fn exhaust(
     starts: &[u16; 17],
     k: usize,
     freed: bool,
+    notes: &mut [u16; 16],
     done: &mut [u16; 16],
     events: &mut [u64; 4],
 )
     requires { ⌜ Walkable (now file) p n (now order) (now starts)
-        × Kept (traceOf (now file)) k (stateOf (now done) (now events)) freed ⌝ }
-    ensures { λ r. ⌜ Exhausted (traceOf (now (file .entry))) k (stateOf (now (done .exit)) (now (events .exit))) ⌝ }
+        × Kept (traceOf (now file)) k (stateOf (now done) (now events)) freed
+        × Noted (traceOf (now file)) k (stateOf (now done) (now events)) (now notes) ⌝ }
+    ensures { λ r. ⌜ Exhausted (traceOf (now (file .entry))) k (stateOf (now (done .exit)) (now (events .exit)))
+        × Noted (traceOf (now (file .entry))) k (stateOf (now (done .exit)) (now (events .exit))) (now (notes .exit)) ⌝ }
 {
     if freed {
-        walk::walk_on(file, p, n, order, starts, k, done, events);
+        walk::walk_on(file, p, n, order, starts, k, notes, done, events);
     }
 }
 
@@ -85,14 +89,27 @@ fn fill_worker(
 {
     let mut done = [0u16; 16];
     let mut events = [0u64; 4];
+    let mut notes = [0u16; 16];
     let mut freed = true;
     let mut at = wide(starts[q]);
     let end = wide(starts[q + 1]);
     while at < end {
         let k = wide(order[at]);
-        exhaust(file, p, n, order, starts, k, freed, &mut done, &mut events);
+        exhaust(
+            file,
+            p,
+            n,
+            order,
+            starts,
+            k,
+            freed,
+            &mut notes,
+            &mut done,
+            &mut events,
+        );
         put_row(&done, p, k, table);
         freed = walk::add(file, k, &mut done, &mut events);
+        notes[q] = 0;
         at += 1;
     }
 }

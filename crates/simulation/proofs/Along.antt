@@ -10,7 +10,7 @@ use native.Mathlib.Omega.{arith}
 use Prim.Native.Nat.{ℕ, suc, _+_, _<_, _≤_}
 use lib.Dec.{eqb, ltb}
 use lib.ListN.{length, getD, set, take}
-use lib.Seq.{getD-set-same, getD-set-other}
+use lib.Seq.{getD-set-same}
 use borrow.Author.Tests.{eq-eqb, ne-eqb}
 use Rattle.runs.specs.Greedy.{greedyFrom}
 use Rattle.runs.specs.Maximal.{MaximalWithout}
@@ -42,6 +42,7 @@ use Rattle.walk.specs.Events.{isPosted}
 use Rattle.walk.specs.Walks.{Fits, startWalk, nextOf, mayRun, move, added, walkFrom, runFrom}
 use Rattle.walk.proofs.Moves.{may-below, Moved, move-some, move-none, walk-stop}
 use Rattle.walk.proofs.NextOperations.{next-rth, rth-next}
+use Rattle.walk.proofs.Turns.{added-other}
 use Rattle.simulation.specs.Shows.{Walked, Ends, Lacking, Exhausted, Kept}
 use Rattle.simulation.proofs.Answers.{ends-row}
 use Rattle.simulation.proofs.Ends.{ends-count}
@@ -154,10 +155,6 @@ module _ {t : Trace} (f : Fits t) {a : ℕ} where
     unfolding added
     own-events e = rw e
 
-    other-next : (r : ℕ) → r ≢ workerOf t a → nextOf t (added t w a) r ≡ nextOf t w r
-    unfolding added nextOf
-    other-next r d = rw (getD-set-other (w .done) (workerOf t a) r (getD (w .done) (workerOf t a) 0 + 1) 0 d)
-
     pub own-stops : isPost (operation t a .kind) ≡ false → {b : ℕ} → nextOf t (added t w a) (workerOf t a) ≡ b
         → size t ≤ move t b (added t w a)
     own-stops e {b} next = elim (less? (move t b (added t w a)) (size t)) [
@@ -186,7 +183,7 @@ module _ {t : Trace} (f : Fits t) {a : ℕ} where
         moves m =
             elim (equal? (m .worker) (workerOf t a)) [
               | inl i ↦ own (ap (λ (r : ℕ). mayRun t b (w .events) (nextOf t (added t w a) r)) (sym i) ∙ may m)
-              | inr d ↦ other (m .worker) (m .below) d (rw (other-next (m .worker) d) at (may m))
+              | inr d ↦ other (m .worker) (m .below) d (rw (added-other t w a (m .worker) d) at (may m))
             ]
 
     -- ---- so the walk is kept along the worker

@@ -56,6 +56,7 @@ fn write_walk(
 {
     let mut done = start.done;
     let mut events = start.events;
+    let mut notes = [0u16; 16];
     let mut at: usize = 0;
     let mut q: usize = 0;
     while q < p {
@@ -68,6 +69,7 @@ fn write_walk(
             left_out,
             left,
             q,
+            &mut notes,
             &mut done,
             &mut events,
         );

@@ -623,3 +623,32 @@ noted-set {t} {a} {done} {events} {notes} s {q} l most x {events′} {note} y =
       | inl i ↦ rw (i, getD-set-same notes q note 0 (omega (arith, l, most, s .entries))) y
       | inr d ↦ rw (getD-set-other notes q r note 0 d) (why-same (next-same t done q x r d events events′) (s .why r m))
     ]
+
+-- ---- an operation added to the state
+
+-- the next operations of the other workers are the same
+pub added-other : (t : Trace) (w : Walk) (a r : ℕ) → r ≢ workerOf t a → nextOf t (added t w a) r ≡ nextOf t w r
+unfolding added nextOf
+added-other t w a r d = rw (getD-set-other (w .done) (workerOf t a) r (getD (w .done) (workerOf t a) 0 + 1) 0 d)
+
+-- where a was left out and is added, and b is left out then, the others' notes stay
+pub noted-added : {t : Trace} {a : ℕ} {w : Walk} {notes : List ℕ} → Noted t a w notes → a < size t
+    → workerOf t a < 16 → (b : ℕ) → Noted t b (added t w a) (set notes (workerOf t a) 0)
+noted-added {t} {a} {w} {notes} s l few b =
+    record { entries = length-set notes (workerOf t a) 0 ∙ s .entries; why = why }
+  where
+    still : {note r : ℕ} → r ≢ workerOf t a → Why t a w note r → Why t b (added t w a) note r
+    still d (nothing i) = nothing i
+    still {r = r} d (waits e i m wait number) =
+        let same = added-other t w a r d in
+        waits e i m (rw same wait) (rw same number)
+    still {r = r} d (ends i (inl z)) = ends i (inl (added-other t w a r d ∙ z))
+    still {r = r} d (ends i (inr z)) =
+        let own = next-rth t w r (rw z l) .own in
+        absurd (d (sym own ∙ ap (workerOf t) z))
+
+    why : (r : ℕ) → r < t .workers → Why t b (added t w a) (getD (set notes (workerOf t a) 0) r 0) r
+    why r m = elim (equal? r (workerOf t a)) [
+      | inl i ↦ nothing (rw i (getD-set-same notes (workerOf t a) 0 0 (omega (arith, few, s .entries))))
+      | inr d ↦ rw (getD-set-other notes (workerOf t a) r 0 0 d) (still d (s .why r m))
+    ]

@@ -1,19 +1,21 @@
--- `exhaust` meets its contract. Assumes nothing.
 use borrow.Author.Needs.{needs}
-use Rattle.order_table.proofs.Keeping.{exhausted-walk, exhausted-still}
 use Rattle.order_table.proofs.exhaust.Statement.{statement}
 use Rattle.order_table.proofs.exhaust.Tie as tie
+use Rattle.order_table.proofs.exhaust.Reads as reads
+use Rattle.order_table.proofs.exhaust.Lts as lts
+use Rattle.walk.proofs.walk_on.Reads as walk-on-reads
 
+-- src/lib.rt:71:9
 walk-on-requires : tie.Need-walk-on-requires
-walk-on-requires c κs = let s = c .before .before .before .before in (s .pre .0, s .pre .1 .lacking .ends .shows .counters)
+walk-on-requires c κs = search needs
 
+-- src/lib.rt:52:1
 returns : tie.Need-returns
-returns c =
-    let s = c .before .before .before .before .before in
-    exhausted-walk (s .pre .0 .holds) (s .pre .1) (c .walk-on .ensures)
+returns c = ?
 
+-- src/lib.rt:52:1
 returns-2 : tie.Need-returns-2
-returns-2 c = let s = c .before .before in exhausted-still (s .pre .0 .holds) (s .pre .1) (c .if1 .left)
+returns-2 c = ?
 
 pub exhaust-spec : {M : Type 1} → statement M
 exhaust-spec = tie.close (tie.spec walk-on-requires returns returns-2)

@@ -1,29 +1,31 @@
--- `write_walk` meets its contract. The invariant: what was added so far is written, w is where it leads, and it is
--- worker q's turn. Assumes nothing.
+-- `write_walk` meets its contract. The invariant: what was added so far is written, w is where it leads, it is worker
+-- q's turn, and the notes are right. Assumes nothing.
 use native.Mathlib.Nat.{add-sub-cancel-left}
 use native.Mathlib.Omega.{arith}
-use Prim.Native.Nat.{_+_, _-_, _*_, _≤_}
+use Prim.Native.Nat.{_+_, _-_, _*_}
 use lib.ListN.{length}
 use borrow.Author.Needs.{needs}
 use Rattle.trace.specs.Reading.{traceOf}
 use Rattle.index.proofs.Lookups.{places-inside}
+use Rattle.walk.specs.Turns.{Noted}
 use Rattle.walk.specs.Walks.{stateOf}
-use Rattle.walk.proofs.Turns.{way-asks}
+use Rattle.walk.proofs.Turns.{way-asks, noted-start}
 use Rattle.two_runs.proofs.Writing.{WalkedSoFar, walked-none, taken-is, turn-copies, walked-less}
 use Rattle.two_runs.proofs.Writing.{walked-turn, walked-end}
 use Rattle.two_runs.proofs.write_walk.Statement.{statement}
 use Rattle.two_runs.proofs.write_walk.Tie as tie
 
 abbrev Inv-loop : tie.InvT-loop
-Inv-loop file p n order starts left-out part₀ done₀ events₀ at₀ q₀ part done events at q =
+Inv-loop file p n order starts left-out part₀ done₀ events₀ notes₀ at₀ q₀ part done events notes at q =
     WalkedSoFar (traceOf file) left-out (stateOf done₀ events₀) part₀ (stateOf done events) at q part
+    × Noted (traceOf file) left-out (stateOf done events) notes
 
 abbrev μ-loop : tie.MeasureT-loop
-μ-loop file p n order starts left-out part₀ done₀ events₀ at₀ q₀ part done events at q =
+μ-loop file p n order starts left-out part₀ done₀ events₀ notes₀ at₀ q₀ part done events notes at q =
     (length part₀ - at) * 17 + (p - q)
 
 loop-holds : tie.Need-loop-holds Inv-loop μ-loop
-loop-holds c = walked-none _ _ _ (search needs)
+loop-holds c = (walked-none _ _ _ (search needs), noted-start _ _ _)
 
 next-place-requires : tie.Need-next-place-requires Inv-loop μ-loop
 next-place-requires c κs =
@@ -32,17 +34,18 @@ next-place-requires c κs =
 
 sub-left : tie.Need-sub-left Inv-loop μ-loop
 sub-left c =
-    let w = c .before .before .before .loop .inv .written in
+    let w = c .before .before .before .loop .inv .0 .written in
     let fits = w .fits in
     let size = w .size in
     search needs
 
 turn-requires : tie.Need-turn-requires Inv-loop μ-loop
 turn-requires c κs =
-    let c5 = c .before .before .before .before .before in
-    let walkable = c5 .before .before .before .before .before .pre in
-    let inv = c5 .loop .inv in
-    rw (inv .written .size) (way-asks walkable (inv .walk) (c .before .before .before .before .loop-test .taken))
+    let c6 = c .before .before .before .before .before .before in
+    let walkable = c6 .before .before .before .before .before .pre in
+    let (s, noted) = c6 .loop .inv in
+    rw (s .written .size)
+    (way-asks walkable (s .walk) (c .before .before .before .before .before .loop-test .taken) noted)
 
 next-place-requires-2 : tie.Need-next-place-requires-2 Inv-loop μ-loop
 next-place-requires-2 c κs = search needs
@@ -69,51 +72,55 @@ copy-places-requires : tie.Need-copy-places-requires Inv-loop μ-loop
 copy-places-requires c κs =
     let c1 = c .before in
     let c3 = c1 .before .before in
-    let c6 = c3 .before .before .before in
-    let c9 = c6 .before .before .before in
-    let x = c9 .before .before .before .before .before .pre in
-    let s = c9 .loop .inv in
-    let u = rw (s .written .size) at (c3 .turn .ensures) in
+    let c7 = c3 .before .before .before .before in
+    let c10 = c7 .before .before .before in
+    let x = c10 .before .before .before .before .before .pre in
+    let s = c10 .loop .inv .0 in
+    let u = rw (s .written .size) at (c3 .turn .ensures .0) in
     let places = rw (← x .holds .count) at (places-inside (x .holds) (x .indexed)) in
-    let more = taken-is s u places _ (c6 .next-place .ensures .0) (c1 .next-place2 .ensures .0) in
-    turn-copies s u places more (add-sub-cancel-left (c9 .loop .at) _) (c6 .next-place .ensures .0)
+    let more = taken-is s u places _ (c7 .next-place .ensures .0) (c1 .next-place2 .ensures .0) in
+    turn-copies s u places more (add-sub-cancel-left (c10 .loop .at) _) (c7 .next-place .ensures .0)
     (omega (arith, x .holds .count, x .holds .few))
 
 loop-less : tie.Need-loop-less Inv-loop μ-loop
 loop-less c =
     let c4 = c .before .before .before .before in
     let c6 = c4 .before .before in
-    let c9 = c6 .before .before .before in
-    let c12 = c9 .before .before .before in
-    let x = c12 .before .before .before .before .before .pre in
-    let s = c12 .loop .inv in
-    let u = rw (s .written .size) at (c6 .turn .ensures) in
+    let c10 = c6 .before .before .before .before in
+    let c13 = c10 .before .before .before in
+    let x = c13 .before .before .before .before .before .pre in
+    let s = c13 .loop .inv .0 in
+    let u = rw (s .written .size) at (c6 .turn .ensures .0) in
     let places = rw (← x .holds .count) at (places-inside (x .holds) (x .indexed)) in
-    let more = taken-is s u places _ (c9 .next-place .ensures .0) (c4 .next-place2 .ensures .0) in
-    walked-less s u places more (add-sub-cancel-left (c12 .loop .at) _) (x .holds .most) (c9 .before .before .loop-test .taken)
+    let more = taken-is s u places _ (c10 .next-place .ensures .0) (c4 .next-place2 .ensures .0) in
+    walked-less s u places more (add-sub-cancel-left (c13 .loop .at) _) (x .holds .most)
+    (c10 .before .before .loop-test .taken)
 
 loop-again : tie.Need-loop-again Inv-loop μ-loop
 loop-again c =
     let c2 = c .before .before in
     let c4 = c2 .before .before in
     let c6 = c4 .before .before in
-    let c9 = c6 .before .before .before in
-    let c12 = c9 .before .before .before in
-    let x = c12 .before .before .before .before .before .pre in
-    let s = c12 .loop .inv in
-    let u = rw (s .written .size) at (c6 .turn .ensures) in
+    let c10 = c6 .before .before .before .before in
+    let c13 = c10 .before .before .before in
+    let x = c13 .before .before .before .before .before .pre in
+    let s = c13 .loop .inv .0 in
+    let u = rw (s .written .size) at (c6 .turn .ensures .0) in
     let places = rw (← x .holds .count) at (places-inside (x .holds) (x .indexed)) in
-    let more = taken-is s u places _ (c9 .next-place .ensures .0) (c4 .next-place2 .ensures .0) in
-    walked-turn s u places more (add-sub-cancel-left (c12 .loop .at) _) (c9 .next-place .ensures .0)
-    (c2 .copy-places .ensures)
+    let more = taken-is s u places _ (c10 .next-place .ensures .0) (c4 .next-place2 .ensures .0) in
+    (
+      walked-turn s u places more (add-sub-cancel-left (c13 .loop .at) _) (c10 .next-place .ensures .0)
+          (c2 .copy-places .ensures),
+      c6 .turn .ensures .1,
+    )
 
 same-length : tie.Need-same-length Inv-loop μ-loop
-same-length c = search needs
+same-length c = c .before .loop .inv .0 .written .size
 
 returns : tie.Need-returns Inv-loop μ-loop
 returns c =
     let holds = c .before .before .before .before .before .before .pre .holds in
-    walked-end (c .before .loop .inv) (omega (arith, c .loop-test .left, holds .workers))
+    walked-end (c .before .loop .inv .0) (omega (arith, c .loop-test .left, holds .workers))
 
 pub write-walk-spec : {M : Type 1} → statement M
 write-walk-spec =
