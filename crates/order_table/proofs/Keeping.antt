@@ -6,7 +6,7 @@ use mathlib.Core.Path.{_≡_, refl, sym, _∙_}
 use native.Mathlib.Omega.{arith}
 use native.Mathlib.Nat.{suc-mul, mul-le-mul-right}
 use Prim.Native.Nat.{ℕ, suc, _+_, _-_, _*_, _<_, _≤_}
-use lib.ListN.{length, getD, take}
+use lib.ListN.{length, getD, set, take, replicate}
 use lib.Seq.{length-take-le}
 use Rattle.runs.specs.Workers.{earlier}
 use Rattle.runs.proofs.Booleans.{zero-one}
@@ -17,9 +17,11 @@ use Rattle.trace.proofs.Answers.{few-numbers}
 use Rattle.index.specs.Indexed.{Indexed, Rth}
 use Rattle.index.proofs.Lookups.{part-rth, part-start, part-ordered, parts-begin, parts-end}
 use Rattle.walk.specs.declared.Walk.{Walk}
+use Rattle.walk.specs.Turns.{Noted}
 use Rattle.walk.specs.Walks.{Fits, startWalk, added, walkFrom}
 use Rattle.walk.proofs.EventBits.{trace-fits}
 use Rattle.walk.proofs.NextOperations.{rth-few}
+use Rattle.walk.proofs.Turns.{noted-start, noted-added}
 use Rattle.simulation.specs.Shows.{Exhausted, Kept}
 use Rattle.simulation.proofs.Along.{lacking-start, lacking-walk, exhausted-row, own-count, along-next}
 use Rattle.accept.proofs.Questions.{accepted-run}
@@ -29,11 +31,12 @@ use Rattle.order_table.specs.Table.{orderTable}
 use Rattle.order_table.proofs.Rows.{put-length, rows-more, rows-all}
 
 -- the rows of worker q's operations before place `at` are written, and the walk is kept for the one there
-pub record KeptTo (t : Trace) (order starts : List ℕ) (q at : ℕ) (w : Walk) (freed : Bool) (before now : List ℕ)
-    : Type 0 where
+pub record KeptTo (t : Trace) (order starts : List ℕ) (q at : ℕ) (w : Walk) (notes : List ℕ) (freed : Bool)
+    (before now : List ℕ) : Type 0 where
   pub lower : getD starts q 0 ≤ at
   pub upper : at ≤ getD starts (q + 1) 0
   pub kept : at < getD starts (q + 1) 0 → Kept t (getD order at 0) w freed
+  pub noted : at < getD starts (q + 1) 0 → Noted t (getD order at 0) w notes
   pub same-length : length now ≡ length before
   pub rows : (old : List ℕ) → RowsTo t starts (getD starts q 0) old before → RowsTo t starts at old now
 
@@ -90,19 +93,25 @@ module _ {bytes : List ℕ} {p n : ℕ} {order starts before : List ℕ} (x : Fi
 
     -- ---- one operation
 
-    pub kept-more : {w : Walk} {freed : Bool} {now : List ℕ} → KeptTo t order starts q at w freed before now
-        → {u : Walk} → Exhausted t k u → {v : Walk} → v ≡ added t u k → {b : Bool} → b ≡ isPost (operation t k .kind)
+    pub kept-more : {w : Walk} {notes : List ℕ} {freed : Bool} {now : List ℕ}
+        → KeptTo t order starts q at w notes freed before now
+        → {u : Walk} → Exhausted t k u → {still : List ℕ} → Noted t k u still → {v : Walk} → v ≡ added t u k
+        → {b : Bool} → b ≡ isPost (operation t k .kind)
         → {next : List ℕ} → next ≡ rowPut p k (take p (u .done)) now
-        → KeptTo t order starts q (at + 1) v b before next
-    kept-more {now = now} s {u} e {v} i {b} j {next} c =
+        → KeptTo t order starts q (at + 1) v (set still q 0) b before next
+    kept-more {now = now} s {u} e {still} d {v} i {b} j {next} c =
         record {
           lower = omega (arith, lower);
           upper = omega (arith, upper);
           kept = λ l. rw (i, j) (along-next fits e (accepted-run (x .accepted)) place-below (next-rth l));
+          noted = λ l. rw (i, ← place-rth .own) (noted-added d place-below few (getD order (at + 1) 0));
           same-length = rw c (put-length p k (take p (u .done)) now long (room .table-holds) ∙ s .same-length);
           rows = λ old r. rw c (written old (s .rows old r));
         }
       where
+        few : workerOf t k < 16
+        few = rw (place-rth .own) (omega (arith, hq, holds .most))
+
         room : RoomAt p k (u .done) now
         room = row-room e (s .same-length)
 
@@ -130,19 +139,20 @@ module _ {bytes : List ℕ} {p n : ℕ} {order starts before : List ℕ} (x : Fi
   -- ---- the start, and the end
 
   pub kept-start : {w : Walk} → w ≡ startWalk
-      → KeptTo t order starts q (getD starts q 0) w true before before
-  kept-start e =
+      → KeptTo t order starts q (getD starts q 0) w (replicate 16 0) true before before
+  kept-start {w} e =
       let most : q < 16 = omega (arith, hq, holds .most) in
       record {
         lower = omega arith;
         upper = part-ordered holds (x .walkable .indexed) q most;
         kept = λ l. rw e (record { lacking = lacking-start t _; still = λ z. absurd (zero-one cc) });
+        noted = λ l. noted-start t _ w;
         same-length = refl;
         rows = λ old r. r;
       }
 
-  pub kept-end : {at : ℕ} {w : Walk} {freed : Bool} {now : List ℕ} → KeptTo t order starts q at w freed before now
-      → getD starts (q + 1) 0 ≤ at → FillsPart t starts q before now
+  pub kept-end : {at : ℕ} {w : Walk} {notes : List ℕ} {freed : Bool} {now : List ℕ}
+      → KeptTo t order starts q at w notes freed before now → getD starts (q + 1) 0 ≤ at → FillsPart t starts q before now
   kept-end {at} s l old r =
       let e : at ≡ getD starts (q + 1) 0 = omega (arith, l, s .upper) in
       rw (← e) (s .rows old r)

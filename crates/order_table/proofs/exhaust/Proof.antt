@@ -1,21 +1,21 @@
+-- `exhaust` meets its contract. Assumes nothing.
 use borrow.Author.Needs.{needs}
+use Rattle.order_table.proofs.Keeping.{exhausted-walk, exhausted-still}
 use Rattle.order_table.proofs.exhaust.Statement.{statement}
 use Rattle.order_table.proofs.exhaust.Tie as tie
-use Rattle.order_table.proofs.exhaust.Reads as reads
-use Rattle.order_table.proofs.exhaust.Lts as lts
-use Rattle.walk.proofs.walk_on.Reads as walk-on-reads
 
--- src/lib.rt:71:9
 walk-on-requires : tie.Need-walk-on-requires
-walk-on-requires c κs = search needs
+walk-on-requires c κs =
+    let (x, kept, noted) = c .before .before .before .before .before .pre in
+    (x, kept .lacking .ends .shows .counters, noted)
 
--- src/lib.rt:52:1
 returns : tie.Need-returns
-returns c = ?
+returns c =
+    let (x, kept, noted) = c .before .before .before .before .before .before .pre in
+    (exhausted-walk (x .holds) kept (c .walk-on .ensures .0), c .walk-on .ensures .1)
 
--- src/lib.rt:52:1
 returns-2 : tie.Need-returns-2
-returns-2 c = ?
+returns-2 c = let (x, kept, noted) = c .before .before .pre in (exhausted-still (x .holds) kept (c .if1 .left), noted)
 
 pub exhaust-spec : {M : Type 1} → statement M
 exhaust-spec = tie.close (tie.spec walk-on-requires returns returns-2)

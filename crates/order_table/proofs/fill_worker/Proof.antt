@@ -1,103 +1,154 @@
+-- `fill_worker` meets its contract. The invariant: the rows before place `at` are written, and the walk is kept for the
+-- operation there. Assumes nothing.
+use mathlib.Core.Path.{refl}
+use native.Mathlib.Omega.{arith}
+use Prim.Native.Nat.{_-_}
+use borrow.Author.Needs.{needs}
+use Rattle.trace.specs.Reading.{traceOf}
+use Rattle.walk.specs.Walks.{stateOf}
+use Rattle.order_table.proofs.Keeping.{KeptTo, place-few, row-room, add-asks, kept-more, kept-start, kept-end}
 use Rattle.order_table.proofs.fill_worker.Statement.{statement}
 use Rattle.order_table.proofs.fill_worker.Tie as tie
-use Rattle.order_table.proofs.fill_worker.Reads as reads
-use Rattle.order_table.proofs.fill_worker.Lts as lts
-use Rattle.order_table.proofs.exhaust.Reads as exhaust-reads
-use Rattle.order_table.proofs.put_row.Reads as put-row-reads
-use Rattle.order_table.proofs.wide.Reads as wide-reads
-use Rattle.walk.proofs.add.Reads as add-reads
 
 abbrev Inv-loop : tie.InvT-loop
 Inv-loop file p n order starts q table₀ done₀ events₀ notes₀ freed₀ at₀ end table done events notes freed at =
-    ?
+    KeptTo (traceOf file) order starts q at (stateOf done events) notes freed table₀ table
 
 abbrev μ-loop : tie.MeasureT-loop
-μ-loop file p n order starts q table₀ done₀ events₀ notes₀ freed₀ at₀ end table done events notes freed at =
-    ?
+μ-loop file p n order starts q table₀ done₀ events₀ notes₀ freed₀ at₀ end table done events notes freed at = end - at
 
--- src/lib.rt:94:23
 mul-wide : tie.Need-mul-wide Inv-loop μ-loop
-mul-wide c = ?
+mul-wide c = search needs
 
--- src/lib.rt:94:23
 element-copy-out-wide : tie.Need-element-copy-out-wide Inv-loop μ-loop
-element-copy-out-wide c = ?
+element-copy-out-wide c = let (x, hq) = c .before .before .pre in omega (arith, hq, x .walkable .holds .most)
 
--- src/lib.rt:94:9
 wide-requires : tie.Need-wide-requires Inv-loop μ-loop
-wide-requires c κs = ?
+wide-requires c κs = search needs
 
--- src/lib.rt:95:27
 add-wide : tie.Need-add-wide Inv-loop μ-loop
-add-wide c = ?
+add-wide c = search needs
 
--- src/lib.rt:95:20
 mul-wide-2 : tie.Need-mul-wide-2 Inv-loop μ-loop
-mul-wide-2 c = ?
+mul-wide-2 c = search needs
 
--- src/lib.rt:95:20
 element-copy-out-wide-2 : tie.Need-element-copy-out-wide-2 Inv-loop μ-loop
-element-copy-out-wide-2 c = ?
+element-copy-out-wide-2 c = let (x, hq) = c .before .before .before .before .pre in omega (arith, hq, x .walkable .holds .most)
 
--- src/lib.rt:95:9
 wide-requires-2 : tie.Need-wide-requires-2 Inv-loop μ-loop
-wide-requires-2 c κs = ?
+wide-requires-2 c κs = search needs
 
--- src/lib.rt:96:5
 loop-holds : tie.Need-loop-holds Inv-loop μ-loop
-loop-holds c = ?
+loop-holds c =
+    let (x, hq) = c .before .before .before .before .before .before .pre in
+    rw (c .before .before .wide .ensures .0) (kept-start x hq refl)
 
--- src/lib.rt:97:22
 mul-wide-3 : tie.Need-mul-wide-3 Inv-loop μ-loop
-mul-wide-3 c = ?
+mul-wide-3 c =
+    let c1 = c .before in
+    let (x, hq) = c1 .before .before .before .before .before .before .before .pre in
+    let upper = rw (c1 .before .wide2 .ensures .0) at (c .loop-test .taken) in
+    let few = place-few x hq (c1 .loop .inv .lower) upper in
+    record { fits = omega (arith, few) }
 
--- src/lib.rt:97:22
 element-copy-out-wide-3 : tie.Need-element-copy-out-wide-3 Inv-loop μ-loop
-element-copy-out-wide-3 c = ?
+element-copy-out-wide-3 c =
+    let c1 = c .before in
+    let (x, hq) = c1 .before .before .before .before .before .before .before .pre in
+    let upper = rw (c1 .before .wide2 .ensures .0) at (c .loop-test .taken) in
+    place-few x hq (c1 .loop .inv .lower) upper
 
--- src/lib.rt:97:13
 wide-requires-3 : tie.Need-wide-requires-3 Inv-loop μ-loop
-wide-requires-3 c κs = ?
+wide-requires-3 c κs = search needs
 
--- src/lib.rt:98:9
 exhaust-requires : tie.Need-exhaust-requires Inv-loop μ-loop
-exhaust-requires c κs = ?
+exhaust-requires c κs =
+    let c0 = c .before .before .before in
+    let c3 = c0 .before .before .before in
+    let s = c3 .before .before .before .before .before .before .before in
+    let (x, hq) = s .pre in
+    let lower = c3 .loop .inv .lower in
+    let upper = rw (c3 .before .wide2 .ensures .0) at (c0 .before .before .loop-test .taken) in
+    let k = c0 .wide3 .ensures .0 in
+    (x .walkable, rw k (c3 .loop .inv .kept upper), rw k (c3 .loop .inv .noted upper))
 
--- src/lib.rt:110:9
 put-row-requires : tie.Need-put-row-requires Inv-loop μ-loop
-put-row-requires c κs = ?
+put-row-requires c κs =
+    let c0 = c .before .before .before .before .before .before in
+    let c3 = c0 .before .before .before in
+    let s = c3 .before .before .before .before .before .before .before in
+    let (x, hq) = s .pre in
+    let lower = c3 .loop .inv .lower in
+    let upper = rw (c3 .before .wide2 .ensures .0) at (c0 .before .before .loop-test .taken) in
+    let e = rw (c0 .wide3 .ensures .0) at (c .before .before .exhaust .ensures .0) in
+    rw (c0 .wide3 .ensures .0) (row-room x hq lower upper e (c3 .loop .inv .same-length))
 
--- src/lib.rt:111:9
 add-requires : tie.Need-add-requires Inv-loop μ-loop
-add-requires c κs = ?
+add-requires c κs =
+    let c0 = c .before .before .before .before .before .before .before .before .before .before .before in
+    let c3 = c0 .before .before .before in
+    let s = c3 .before .before .before .before .before .before .before in
+    let (x, hq) = s .pre in
+    let lower = c3 .loop .inv .lower in
+    let upper = rw (c3 .before .wide2 .ensures .0) at (c0 .before .before .loop-test .taken) in
+    let e = rw (c0 .wide3 .ensures .0) at (c .before .before .before .before .before .before .before .exhaust .ensures .0) in
+    rw (c0 .wide3 .ensures .0) (add-asks x hq lower upper e)
 
--- src/lib.rt:112:9
 mul-notes : tie.Need-mul-notes Inv-loop μ-loop
-mul-notes c = ?
+mul-notes c =
+    let c0 = c .before .before .before .before .before .before .before .before .before .before .before .before in
+    let c3 = c0 .before .before .before in
+    let s = c3 .before .before .before .before .before .before .before in
+    let (x, hq) = s .pre in
+    let lower = c3 .loop .inv .lower in
+    let upper = rw (c3 .before .wide2 .ensures .0) at (c0 .before .before .loop-test .taken) in
+    record { fits = omega (arith, hq, x .walkable .holds .most) }
 
--- src/lib.rt:112:9
 array-write-notes : tie.Need-array-write-notes Inv-loop μ-loop
-array-write-notes c = ?
+array-write-notes c =
+    let c0 = c .before .before .before .before .before .before .before .before .before .before .before .before in
+    let c3 = c0 .before .before .before in
+    let s = c3 .before .before .before .before .before .before .before in
+    let (x, hq) = s .pre in
+    let lower = c3 .loop .inv .lower in
+    let upper = rw (c3 .before .wide2 .ensures .0) at (c0 .before .before .loop-test .taken) in
+    omega (arith, hq, x .walkable .holds .most)
 
--- src/lib.rt:113:9
 add-at : tie.Need-add-at Inv-loop μ-loop
-add-at c = ?
+add-at c =
+    let c0 = c .before .before .before .before .before .before .before .before .before .before .before .before in
+    let c3 = c0 .before .before .before in
+    let s = c3 .before .before .before .before .before .before .before in
+    let (x, hq) = s .pre in
+    let lower = c3 .loop .inv .lower in
+    let upper = rw (c3 .before .wide2 .ensures .0) at (c0 .before .before .loop-test .taken) in
+    let few = place-few x hq lower upper in
+    search needs
 
--- src/lib.rt:96:5
 loop-less : tie.Need-loop-less Inv-loop μ-loop
-loop-less c = ?
+loop-less c = search needs
 
--- src/lib.rt:96:5
 loop-again : tie.Need-loop-again Inv-loop μ-loop
-loop-again c = ?
+loop-again c =
+    let c0 = c .before .before .before .before .before .before .before .before .before .before .before .before in
+    let c3 = c0 .before .before .before in
+    let s = c3 .before .before .before .before .before .before .before in
+    let (x, hq) = s .pre in
+    let lower = c3 .loop .inv .lower in
+    let upper = rw (c3 .before .wide2 .ensures .0) at (c0 .before .before .loop-test .taken) in
+    let (e, noted) = rw (c0 .wide3 .ensures .0) at (c .before .before .before .before .before .before .before .before .exhaust .ensures) in
+    let (state, post) = rw (c0 .wide3 .ensures .0) at (c .add .ensures) in
+    let row = rw (c0 .wide3 .ensures .0) at (c .before .before .before .before .before .put-row .ensures) in
+    kept-more x hq lower upper (c3 .loop .inv) e noted state post row
 
--- src/lib.rt:77:1
 same-length : tie.Need-same-length Inv-loop μ-loop
-same-length c = ?
+same-length c = c .before .loop .inv .same-length
 
--- src/lib.rt:77:1
 returns : tie.Need-returns Inv-loop μ-loop
-returns c = ?
+returns c =
+    let c1 = c .before in
+    let (x, hq) = c1 .before .before .before .before .before .before .before .pre in
+    kept-end x hq (c1 .loop .inv) (omega (arith, c .loop-test .left, c1 .before .wide2 .ensures .0))
 
 pub fill-worker-spec : {M : Type 1} → statement M
 fill-worker-spec =
