@@ -20,7 +20,7 @@ use Rattle.index.proofs.Lookups.{part-start, places-inside, place-operation, pa
 use Rattle.walk.specs.declared.Walk.{Walk}
 use Rattle.walk.specs.Events.{isPosted, withPost}
 use Rattle.walk.specs.Turns.{passes, Listed, Stop, postsAt, EventAt, Why, nothing, waits, ends}
-use Rattle.walk.specs.Turns.{Noted, held, noteAt, Due, Turned}
+use Rattle.walk.specs.Turns.{Noted, held, HeldTo, noteAt, Due, Turned}
 use Rattle.walk.specs.Walks.{Fits, Walkable, Placed, stateOf, nextOf, mayRun, move, added, walkFrom, runFrom}
 use Rattle.walk.proofs.EventBits.{zeros, posted-again, event-below, sync-below, trace-fits}
 use Rattle.walk.proofs.Moves.{Moved, move-some, move-none, walk-zero, walk-stop, walk-step}
@@ -488,6 +488,10 @@ module _ {bytes order starts : List ℕ} (x : Placed bytes order starts) {q : �
 
 -- ---- turn by turn
 
+-- the measure of a walk sinks where workers are passed over
+sinks : (x p : ℕ) {q r y : ℕ} → x + (p - q) < y → q ≤ r → x + (p - r) < y
+sinks x p l h = omega (arith, l, h)
+
 -- the walk from `start`, of n steps, is at w: `left` steps are left, and it is worker q's turn
 pub record OnTheWay (t : Trace) (a : ℕ) (start : Walk) (n : ℕ) (w : Walk) (left q : ℕ) : Type 0 where
   pub counters : length (w .done) ≡ 16
@@ -514,13 +518,13 @@ module _ {t : Trace} {a : ℕ} {start : Walk} {n : ℕ} {w : Walk} {left q : ℕ
           let all : left ≡ u .taken + (left - u .taken) = omega (arith, u .few) in
           s .walks ∙ ap (walkFrom t a w) all ∙ u .walks (left - u .taken)
 
-  -- each turn takes a step, or is followed by the next worker's
-  pub way-less : {p : ℕ} → p ≤ 16 → q < p
-      → (left - (getD (w′ .done) q 0 - getD (w .done) q 0)) * 17 + (p - q′) < left * 17 + (p - q)
-  way-less h l = elim (u .on) [
+  -- each turn takes a step, or is followed by a higher worker's
+  pub way-less : {p r : ℕ} → p ≤ 16 → q < p → q′ ≤ r
+      → (left - (getD (w′ .done) q 0 - getD (w .done) q 0)) * 17 + (p - r) < left * 17 + (p - q)
+  way-less {p} h l m = sinks ((left - (getD (w′ .done) q 0 - getD (w .done) q 0)) * 17) p (elim (u .on) [
     | inl e ↦ omega (arith, e, u .count, u .few)
     | inr e ↦ omega (arith, e .0, e .1, u .count, u .few)
-  ]
+  ]) m
 
 pub way-end : {t : Trace} {a : ℕ} {start : Walk} {n : ℕ} {w : Walk} {left q : ℕ} → OnTheWay t a start n w left q
     → t .workers ≤ q → w ≡ walkFrom t a start n
@@ -559,10 +563,10 @@ held-nothing events h = zero-one cc
 held-event : (e : ℕ) (events : List ℕ) → e < 256 → held (suc e) events ≡ true → isPosted events e ≡ false
 unfolding held
 held-event e events l h =
-    let note : ltb (suc e) 257 ≡ true = lt-ltb (suc e) 257 (omega (arith, l)) in
     let some : eqb (suc e) 0 ≡ false = ne-eqb (suc e) 0 (λ z. omega (arith, z)) in
-    let same : (suc e - 1) % 256 ≡ e = omega (arith, l) in
-    not-true (isPosted events e) (rw (some, note, same) at h)
+    let other : eqb (suc e) 257 ≡ false = ne-eqb (suc e) 257 (λ z. omega (arith, z, l)) in
+    let same : (suc e + 255) % 256 ≡ e = omega (arith, l) in
+    not-true (isPosted events e) (rw (some, other, same) at h)
 
 -- a worker that its note holds cannot go on
 pub noted-held : {t : Trace} {a : ℕ} {w : Walk} {notes : List ℕ} → Noted t a w notes → {q : ℕ} → q < t .workers
@@ -576,27 +580,30 @@ noted-held {t} {a} {w} {notes} s {q} l h = go (s .why q l)
     go (ends e (inl i)) = rw i (none-may t a (w .events))
     go (ends e (inr i)) = rw i (left-out-may t a (w .events))
 
--- it takes no step, and the next worker's turn follows
-pub turned-held : {t : Trace} {a left : ℕ} (order : List ℕ) (from : ℕ) {w : Walk} {q : ℕ} {notes : List ℕ}
-    → Due t a left w q → Noted t a w notes → q < t .workers → held (getD notes q 0) (w .events) ≡ true
-    → Turned t a left order from w q w (q + 1)
-turned-held {t} {a} {left} order from {w} {q} d s l h =
-    record {
-      taken = 0;
-      few = omega arith;
-      inside = λ z. absurd (omega (arith, z));
-      counters = refl;
-      count = omega arith;
-      walks = λ s. rw zero-add;
-      adds = λ s. rw zero-add;
-      due = rw sub-zero (record { below = below });
-      on = inl refl;
-    }
+-- looking for one that no note holds
+pub held-start : (p : ℕ) (notes events : List ℕ) (from : ℕ) → HeldTo p notes events from from
+held-start p notes events from =
+    record { from-on = omega arith; up-to = omega arith; each = λ i h l. absurd (omega arith) }
+
+pub held-more : {p : ℕ} {notes events : List ℕ} {from r : ℕ} → HeldTo p notes events from r → r < p
+    → held (getD notes r 0) events ≡ true → HeldTo p notes events from (r + 1)
+held-more {p} {notes} {events} {from} {r} s l e =
+    record { from-on = omega (arith, s .from-on); up-to = omega (arith, s .from-on, l); each = each }
   where
-    below : 0 < left → (r : ℕ) → r < q + 1 → mayRun t a (w .events) (nextOf t w r) ≡ false
-    below z r m = elim (equal? r q) [
-      | inl i ↦ rw i (noted-held s l h)
-      | inr i ↦ d .below z r (omega (arith, m, i))
+    each : (i : ℕ) → from ≤ i → i < r + 1 → held (getD notes i 0) events ≡ true
+    each i h k = elim (equal? i r) [ inl z ↦ rw z e | inr d ↦ s .each i h (omega (arith, k, d)) ]
+
+-- those that are held are passed over
+pub way-free : {t : Trace} {a : ℕ} {start : Walk} {n : ℕ} {w : Walk} {left q : ℕ} → OnTheWay t a start n w left q
+    → {notes : List ℕ} → Noted t a w notes → {p : ℕ} → t .workers ≡ p → {r : ℕ} → HeldTo p notes (w .events) q r
+    → OnTheWay t a start n w left r
+way-free {t} {a} {w = w} {left = left} {q = q} s {notes} noted {p} e {r} h =
+    record { counters = s .counters; walks = s .walks; due = record { below = below } }
+  where
+    below : 0 < left → (i : ℕ) → i < r → mayRun t a (w .events) (nextOf t w i) ≡ false
+    below z i l = elim (less? i q) [
+      | inl m ↦ s .due .below z i m
+      | inr m ↦ noted-held noted (omega (arith, e, l, m, h .up-to)) (h .each i m l)
     ]
 
 -- the others' notes stay when worker q's counts and the events change

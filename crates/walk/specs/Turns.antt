@@ -2,7 +2,7 @@
 -- Follows: document 01, "Two runs" ("the lowest-numbered worker whose next operation may run"): while the workers below
 -- q are blocked, worker q goes on, and they stay blocked until it posts an event that was not posted.
 -- Differs: nowhere. A means: the laws in proofs/Turns show that turn by turn the steps of specs/Walks are taken.
-use mathlib.Core.Bool.{Bool, true, false, not, cond}
+use mathlib.Core.Bool.{Bool, true, false, not, _&&_, _||_, cond}
 use mathlib.Core.List.{List, _++_}
 use mathlib.Core.Logic.{_⊎_}
 use mathlib.Core.Path.{_≡_}
@@ -59,7 +59,13 @@ pub record Noted (t : Trace) (a : ℕ) (w : Walk) (notes : List ℕ) : Type 0 wh
 
 -- by its note, a worker cannot go on
 unfoldable pub held : ℕ → List ℕ → Bool
-held note events = cond (eqb note 0) false (cond (ltb note 257) (not (isPosted events ((note - 1) % 256))) true)
+held note events = not (eqb note 0) && (eqb note 257 || not (isPosted events ((note + 255) % 256)))
+
+-- the workers from `from` on, below r, are held; r is below p, or none is left
+pub record HeldTo (p : ℕ) (notes events : List ℕ) (from r : ℕ) : Type 0 where
+  pub from-on : from ≤ r
+  pub up-to : r ≤ max from p
+  pub each : (i : ℕ) → from ≤ i → i < r → held (getD notes i 0) events ≡ true
 
 -- the note of a worker that stops at place `at`: by the operation there, below `end`; or at `last`, the end of its part
 unfoldable pub noteAt : Trace → List ℕ → ℕ → ℕ → ℕ → ℕ → ℕ

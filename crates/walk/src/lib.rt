@@ -7,7 +7,7 @@ ghost use Rattle.trace.specs.Reading.{traceOf};
 ghost use Rattle.trace.specs.Trace.{size, operation, workerOf, isPost};
 ghost use Rattle.walk.specs.Events.{isPosted, withPost};
 ghost use Rattle.walk.specs.Turns.{Listed, passes, Stop, postsAt, EventAt, Noted, held, noteAt};
-ghost use Rattle.walk.specs.Turns.{Due, Turned};
+ghost use Rattle.walk.specs.Turns.{HeldTo, Due, Turned};
 ghost use Rattle.walk.specs.Walks.{Fits, Walkable, Placed, startWalk, stateOf, nextOf, added, walkFrom, lowestLeft};
 
 // How many operations each worker has done, and the set of posted events: event e is bit e % 64 of word e / 64.
@@ -187,13 +187,23 @@ pub fn add(file: &[u8], k: usize, done: &mut [u16; 16], events: &mut [u64; 4]) -
 fn is_held(note: u16, events: &[u64; 4]) -> bool
     ensures { λ r. ⌜ r ≡ held note (now (events .entry)) ⌝ }
 {
-    if note == 0 {
-        return false;
+    let posted = is_posted(events, ((note as u32) + 255) % 256);
+    trace::both(note != 0, trace::either(note == 257, !posted))
+}
+
+// The first worker from `from` on that its note does not hold; p where there is none.
+pub fn next_free(p: usize, notes: &[u16; 16], events: &[u64; 4], from: usize) -> usize
+    requires { ⌜ p ≤ 16 ⌝ }
+    ensures { λ r. ⌜ HeldTo p (now (notes .entry)) (now (events .entry)) from r ⌝ }
+{
+    let mut q = from;
+    while q < p {
+        if !is_held(notes[q], events) {
+            return q;
+        }
+        q += 1;
     }
-    if note < 257 {
-        return !is_posted(events, ((note - 1) as u32) % 256);
-    }
-    true
+    q
 }
 
 // The note of worker q, which stops at a place: by the operation there, below `end`, or at the end of its part.
@@ -227,10 +237,10 @@ fn note_at(
     0
 }
 
-// Worker q goes on, by at most `left` operations: while its operations pass, and through a Post of an event that is not
+// Worker q's turn, of at most `left` operations: it goes on while its operations pass, and through a Post of an event that is not
 // posted. Answers whose turn it is then: worker 0's after such a Post, which may have freed others, and otherwise the
 // next worker's.
-fn go_on(
+pub fn turn(
     file: &[u8],
     order: &[u16; 1024],
     starts: &[u16; 17],
@@ -267,36 +277,6 @@ fn go_on(
     q + 1
 }
 
-// Worker q's turn: it goes on, unless its note holds it.
-pub fn turn(
-    file: &[u8],
-    order: &[u16; 1024],
-    starts: &[u16; 17],
-    left_out: usize,
-    left: usize,
-    q: usize,
-    notes: &mut [u16; 16],
-    done: &mut [u16; 16],
-    events: &mut [u64; 4],
-) -> usize
-    requires { ⌜ Placed (now file) (now order) (now starts)
-        × (q < traceOf (now file) .workers)
-        × (length (now done) ≡ 16)
-        × Due (traceOf (now file)) «left_out» «left» (stateOf (now done) (now events)) q
-        × Noted (traceOf (now file)) «left_out» (stateOf (now done) (now events)) (now notes) ⌝ }
-    ensures { λ r. ⌜ Turned (traceOf (now (file .entry))) «left_out» «left» (now (order .entry))
-        (getD (now (starts .entry)) q 0 + getD (now (done .entry)) q 0)
-        (stateOf (now (done .entry)) (now (events .entry))) q
-        (stateOf (now (done .exit)) (now (events .exit))) r
-        × Noted (traceOf (now (file .entry))) «left_out» (stateOf (now (done .exit)) (now (events .exit)))
-        (now (notes .exit)) ⌝ }
-{
-    if is_held(notes[q], events) {
-        return q + 1;
-    }
-    go_on(file, order, starts, left_out, left, q, notes, done, events)
-}
-
 // Goes on with a walk, which leaves out one operation, to its end. Where the number left out is n, which no operation
 // has, nothing is left out.
 pub fn walk_on(
@@ -319,12 +299,12 @@ pub fn walk_on(
         (now (notes .exit)) ⌝ }
 {
     let mut left = n;
-    let mut q: usize = 0;
+    let mut q = next_free(p, notes, events, 0);
     while q < p {
         let before = wide(done[q]);
         let next = turn(file, order, starts, left_out, left, q, notes, done, events);
         left -= wide(done[q]) - before;
-        q = next;
+        q = next_free(p, notes, events, next);
     }
 }
 

@@ -6,26 +6,33 @@ use borrow.Author.Needs.{needs}
 use Rattle.trace.specs.Reading.{traceOf}
 use Rattle.walk.specs.Turns.{Noted}
 use Rattle.walk.specs.Walks.{stateOf}
-use Rattle.walk.proofs.Turns.{OnTheWay, way-start, way-few, way-turn, way-less, way-end, way-asks}
+use Rattle.walk.proofs.Turns.{OnTheWay, way-start, way-few, way-turn, way-less, way-end, way-asks, way-free}
 use Rattle.walk.proofs.walk_on.Statement.{statement}
 use Rattle.walk.proofs.walk_on.Tie as tie
 
 abbrev Inv-loop : tie.InvT-loop
-Inv-loop file p n order starts left-out notes₀ done₀ events₀ left₀ q₀ notes done events left q = 
+Inv-loop file p n order starts left-out notes₀ done₀ events₀ left₀ q₀ notes done events left q =
     OnTheWay (traceOf file) left-out (stateOf done₀ events₀) left₀ (stateOf done events) left q
     × Noted (traceOf file) left-out (stateOf done events) notes
 
 abbrev μ-loop : tie.MeasureT-loop
 μ-loop file p n order starts left-out notes₀ done₀ events₀ left₀ q₀ notes done events left q = left * 17 + (p - q)
 
+next-free-requires : tie.Need-next-free-requires Inv-loop μ-loop
+next-free-requires c κs = c .before .before .before .pre .0 .holds .most
+
 loop-holds : tie.Need-loop-holds Inv-loop μ-loop
-loop-holds c = (way-start _ _ _ (c .before .pre .1), c .before .pre .2)
+loop-holds c =
+    let (x, long, noted) = c .before .before .before .before .pre in
+    (way-free (way-start _ _ _ long) noted (x .holds .workers) (c .next-free .ensures), noted)
 
 mul-wide : tie.Need-mul-wide Inv-loop μ-loop
 mul-wide c = search needs
 
 element-copy-out-wide : tie.Need-element-copy-out-wide Inv-loop μ-loop
-element-copy-out-wide c = omega (arith, c .loop-test .taken, c .before .before .before .pre .0 .holds .most)
+element-copy-out-wide c =
+    let c1 = c .before in
+    omega (arith, c .loop-test .taken, c1 .before .before .before .before .before .pre .0 .holds .most)
 
 wide-requires : tie.Need-wide-requires Inv-loop μ-loop
 wide-requires c κs = search needs
@@ -35,15 +42,16 @@ turn-requires c κs =
     let c6 = c .before .before .before .before .before .before in
     let (way, noted) = c6 .loop .inv in
     let test = c .before .before .before .before .before .loop-test .taken in
-    way-asks (c6 .before .before .pre .0) way test noted
+    way-asks (c6 .before .before .before .before .before .pre .0) way test noted
 
 mul-wide-2 : tie.Need-mul-wide-2 Inv-loop μ-loop
 mul-wide-2 c = search needs
 
 element-copy-out-wide-2 : tie.Need-element-copy-out-wide-2 Inv-loop μ-loop
 element-copy-out-wide-2 c =
-    let c6 = c .before .before .before .before .before .before in
-    omega (arith, c6 .loop-test .taken, c6 .before .before .before .pre .0 .holds .most)
+    let c7 = c .before .before .before .before .before .before .before in
+    let most = c7 .before .before .before .before .before .pre .0 .holds .most in
+    omega (arith, c .before .before .before .before .before .before .loop-test .taken, most)
 
 wide-requires-2 : tie.Need-wide-requires-2 Inv-loop μ-loop
 wide-requires-2 c κs = search needs
@@ -65,25 +73,35 @@ sub-left-2 c =
     let was = c6 .wide .ensures .0 in
     search needs
 
+next-free-requires-2 : tie.Need-next-free-requires-2 Inv-loop μ-loop
+next-free-requires-2 c κs =
+    let c6 = c .before .before .before .before .before .before in
+    c6 .before .before .before .before .before .before .before .before .before .before .pre .0 .holds .most
+
 loop-less : tie.Need-loop-less Inv-loop μ-loop
 loop-less c =
-    let c2 = c .before .before in
-    let c6 = c2 .before .before .before .before in
-    let c9 = c6 .before .before .before in
-    let most = c9 .before .before .pre .0 .holds .most in
-    rw (c .wide2 .ensures .0, c6 .wide .ensures .0)
-    (way-less (c9 .loop .inv .0) (c2 .turn .ensures .0) most (c6 .before .before .loop-test .taken))
+    let c3 = c .before .before .before in
+    let c5 = c3 .before .before in
+    let c9 = c5 .before .before .before .before in
+    let c12 = c9 .before .before .before in
+    let most = c12 .before .before .before .before .before .pre .0 .holds .most in
+    let less = way-less (c12 .loop .inv .0) (c5 .turn .ensures .0) most (c9 .before .before .loop-test .taken) in
+    rw (c3 .wide2 .ensures .0, c9 .wide .ensures .0) (less (c .next-free2 .ensures .from-on))
 
 loop-again : tie.Need-loop-again Inv-loop μ-loop
 loop-again c =
-    let c2 = c .before .before in
-    let c6 = c2 .before .before .before .before in
-    rw (c .wide2 .ensures .0, c6 .wide .ensures .0)
-    (way-turn (c6 .before .before .before .loop .inv .0) (c2 .turn .ensures .0), c2 .turn .ensures .1)
+    let c3 = c .before .before .before in
+    let c5 = c3 .before .before in
+    let c9 = c5 .before .before .before .before in
+    let c12 = c9 .before .before .before in
+    let x = c12 .before .before .before .before .before .pre .0 in
+    let (turned, noted) = c5 .turn .ensures in
+    let way = rw (← c3 .wide2 .ensures .0, ← c9 .wide .ensures .0) at (way-turn (c12 .loop .inv .0) turned) in
+    (way-free way noted (x .holds .workers) (c .next-free2 .ensures), noted)
 
 returns : tie.Need-returns Inv-loop μ-loop
 returns c =
-    let holds = c .before .before .before .pre .0 .holds in
+    let holds = c .before .before .before .before .before .before .pre .0 .holds in
     let (way, noted) = c .before .loop .inv in
     let end = way-end way (omega (arith, c .loop-test .left, holds .workers)) in
     (end, noted)
@@ -94,6 +112,7 @@ walk-on-spec =
     (tie.spec
     Inv-loop
     μ-loop
+    next-free-requires
     loop-holds
     mul-wide
     element-copy-out-wide
@@ -104,6 +123,7 @@ walk-on-spec =
     wide-requires-2
     sub-left
     sub-left-2
+    next-free-requires-2
     loop-less
     loop-again
     returns)
