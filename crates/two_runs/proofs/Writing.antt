@@ -14,12 +14,12 @@ use Rattle.trace.specs.Reading.{traceOf}
 use Rattle.trace.specs.Trace.{Trace, size}
 use Rattle.model.specs.Computed.{heldBackRun}
 use Rattle.model.proofs.HeldBack.{held-back-length}
-use Rattle.walk.specs.Turns.{Turned}
+use Rattle.walk.specs.Turns.{Noted, HeldTo, Turned}
 use Rattle.walk.specs.Walks.{startWalk, walkFrom, runFrom}
 use Rattle.walk.specs.declared.Walk.{Walk}
 use Rattle.walk.proofs.EventBits.{trace-fits}
 use Rattle.walk.proofs.Moves.{run-fewer}
-use Rattle.walk.proofs.Turns.{OnTheWay, due-end, way-start, way-turn, way-less, way-end}
+use Rattle.walk.proofs.Turns.{OnTheWay, due-end, way-start, way-turn, way-less, way-end, way-free}
 use Rattle.simulation.proofs.Walked.{run-held-back}
 use Rattle.accept.specs.Acceptance.{AcceptedTrace}
 use Rattle.accept.proofs.Questions.{accepted-workers, accepted-run}
@@ -93,9 +93,9 @@ module _ {t : Trace} {a : ℕ} {start : Walk} {old : List ℕ} {w : Walk} {at q 
     rest : length old - (at + more) ≡ length old - at - (getD (w′ .done) q 0 - getD (w .done) q 0)
     rest = omega (arith, e, u .count)
 
-    pub walked-less : {p : ℕ} → p ≤ 16 → q < p
-        → (length old - (at + more)) * 17 + (p - q′) < (length old - at) * 17 + (p - q)
-    walked-less h l = rw rest (way-less (s .walk) u h l)
+    pub walked-less : {p r : ℕ} → p ≤ 16 → q < p → q′ ≤ r
+        → (length old - (at + more)) * 17 + (p - r) < (length old - at) * 17 + (p - q)
+    walked-less h l m = rw rest (way-less (s .walk) u h l m)
 
     pub walked-turn : {place : ℕ} {part : List ℕ} → place ≡ from
         → part ≡ take (length (take width (drop at now))) (drop place order)
@@ -121,6 +121,13 @@ module _ {t : Trace} {a : ℕ} {start : Walk} {old : List ℕ} {w : Walk} {at q 
         adds =
             let all : length old - at ≡ u .taken + (length old - (at + more)) = omega (arith, e, u .few) in
             ap (runFrom t a w) all ∙ u .adds (length old - (at + more)) ∙ rw stretch
+
+-- workers that their notes hold are passed over
+pub walked-free : {t : Trace} {a : ℕ} {start : Walk} {old : List ℕ} {w : Walk} {at q : ℕ} {now : List ℕ}
+    → WalkedSoFar t a start old w at q now → {notes : List ℕ} → Noted t a w notes → {p : ℕ} → t .workers ≡ p
+    → {r : ℕ} → HeldTo p notes (w .events) q r → WalkedSoFar t a start old w at r now
+walked-free s noted e h =
+    record { so-far = s .so-far; written = s .written; run = s .run; walk = way-free (s .walk) noted e h }
 
 -- after the last turn nothing more is added
 pub walked-end : {t : Trace} {a : ℕ} {start : Walk} {old : List ℕ} {w : Walk} {at q : ℕ} {now : List ℕ}

@@ -76,7 +76,7 @@ fn write_walk(
         let end = at + (walk::next_place(starts, &done, q) - from);
         copy_places(order, from, &mut part[at..end]);
         at = end;
-        q = next;
+        q = walk::next_free(p, &notes, &events, next);
     }
     Reached {
         walk: Walk {

@@ -11,7 +11,7 @@ use Rattle.walk.specs.Turns.{Noted}
 use Rattle.walk.specs.Walks.{stateOf}
 use Rattle.walk.proofs.Turns.{way-asks, noted-start}
 use Rattle.two_runs.proofs.Writing.{WalkedSoFar, walked-none, taken-is, turn-copies, walked-less}
-use Rattle.two_runs.proofs.Writing.{walked-turn, walked-end}
+use Rattle.two_runs.proofs.Writing.{walked-turn, walked-free, walked-end}
 use Rattle.two_runs.proofs.write_walk.Statement.{statement}
 use Rattle.two_runs.proofs.write_walk.Tie as tie
 
@@ -82,37 +82,42 @@ copy-places-requires c κs =
     turn-copies s u places more (add-sub-cancel-left (c10 .loop .at) _) (c7 .next-place .ensures .0)
     (omega (arith, x .holds .count, x .holds .few))
 
+next-free-requires : tie.Need-next-free-requires Inv-loop μ-loop
+next-free-requires c κs =
+    let c8 = c .before .before .before .before .before .before .before .before in
+    let c15 = c8 .before .before .before .before .before .before .before in
+    c15 .before .before .before .before .before .pre .holds .most
+
 loop-less : tie.Need-loop-less Inv-loop μ-loop
 loop-less c =
-    let c4 = c .before .before .before .before in
-    let c6 = c4 .before .before in
-    let c10 = c6 .before .before .before .before in
-    let c13 = c10 .before .before .before in
-    let x = c13 .before .before .before .before .before .pre in
-    let s = c13 .loop .inv .0 in
-    let u = rw (s .written .size) at (c6 .turn .ensures .0) in
+    let c7 = c .before .before .before .before .before .before .before in
+    let c9 = c7 .before .before in
+    let c13 = c9 .before .before .before .before in
+    let c16 = c13 .before .before .before in
+    let x = c16 .before .before .before .before .before .pre in
+    let s = c16 .loop .inv .0 in
+    let u = rw (s .written .size) at (c9 .turn .ensures .0) in
     let places = rw (← x .holds .count) at (places-inside (x .holds) (x .indexed)) in
-    let more = taken-is s u places _ (c10 .next-place .ensures .0) (c4 .next-place2 .ensures .0) in
-    walked-less s u places more (add-sub-cancel-left (c13 .loop .at) _) (x .holds .most)
-    (c10 .before .before .loop-test .taken)
+    let more = taken-is s u places _ (c13 .next-place .ensures .0) (c7 .next-place2 .ensures .0) in
+    walked-less s u places more (add-sub-cancel-left (c16 .loop .at) _) (x .holds .most)
+    (c13 .before .before .loop-test .taken) (c .next-free .ensures .from-on)
 
 loop-again : tie.Need-loop-again Inv-loop μ-loop
 loop-again c =
-    let c2 = c .before .before in
-    let c4 = c2 .before .before in
-    let c6 = c4 .before .before in
-    let c10 = c6 .before .before .before .before in
-    let c13 = c10 .before .before .before in
-    let x = c13 .before .before .before .before .before .pre in
-    let s = c13 .loop .inv .0 in
-    let u = rw (s .written .size) at (c6 .turn .ensures .0) in
+    let c5 = c .before .before .before .before .before in
+    let c7 = c5 .before .before in
+    let c9 = c7 .before .before in
+    let c13 = c9 .before .before .before .before in
+    let c16 = c13 .before .before .before in
+    let x = c16 .before .before .before .before .before .pre in
+    let s = c16 .loop .inv .0 in
+    let u = rw (s .written .size) at (c9 .turn .ensures .0) in
     let places = rw (← x .holds .count) at (places-inside (x .holds) (x .indexed)) in
-    let more = taken-is s u places _ (c10 .next-place .ensures .0) (c4 .next-place2 .ensures .0) in
-    (
-      walked-turn s u places more (add-sub-cancel-left (c13 .loop .at) _) (c10 .next-place .ensures .0)
-          (c2 .copy-places .ensures),
-      c6 .turn .ensures .1,
-    )
+    let more = taken-is s u places _ (c13 .next-place .ensures .0) (c7 .next-place2 .ensures .0) in
+    let next = walked-turn s u places more (add-sub-cancel-left (c16 .loop .at) _) (c13 .next-place .ensures .0)
+        (c5 .copy-places .ensures) in
+    let noted = c9 .turn .ensures .1 in
+    (walked-free next noted (x .holds .workers) (c .next-free .ensures), noted)
 
 same-length : tie.Need-same-length Inv-loop μ-loop
 same-length c = c .before .loop .inv .0 .written .size
@@ -140,6 +145,7 @@ write-walk-spec =
     part-copy-places-start
     part-copy-places-end
     copy-places-requires
+    next-free-requires
     loop-less
     loop-again
     same-length
