@@ -1,4 +1,5 @@
--- What is in the lent table after the call. In order: after any call, the length; after success, the row of an operation, what its entries count and tell, and what lies behind the rows.
+-- What is in the lent table after the call. In order: after any call, the length; after success, the row
+-- of an operation, what its entries count and tell, and what lies behind the rows.
 use mathlib.Core.List.{List}
 use mathlib.Core.Logic.{_≢_, _↔_}
 use mathlib.Core.Path.{_≡_, sym, ap, _∙_}

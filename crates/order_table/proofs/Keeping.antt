@@ -2,7 +2,7 @@
 -- part; one operation; the start, and the end; worker after worker; the walk without an operation.
 use mathlib.Core.Bool.{Bool, true, false}
 use mathlib.Core.List.{List}
-use mathlib.Core.Path.{_≡_, refl, sym, _∙_}
+use mathlib.Core.Path.{_≡_, refl, _∙_}
 use native.Mathlib.Omega.{arith}
 use native.Mathlib.Nat.{suc-mul, mul-le-mul-right}
 use Prim.Native.Nat.{ℕ, suc, _+_, _-_, _*_, _<_, _≤_}
@@ -21,7 +21,7 @@ use Rattle.walk.specs.Turns.{Noted}
 use Rattle.walk.specs.Walks.{Fits, startWalk, added, walkFrom}
 use Rattle.walk.proofs.EventBits.{trace-fits}
 use Rattle.walk.proofs.NextOperations.{rth-few}
-use Rattle.walk.proofs.Turns.{noted-start, noted-added}
+use Rattle.walk.proofs.Notes.{noted-start, noted-added}
 use Rattle.simulation.specs.Shows.{Exhausted, Kept}
 use Rattle.simulation.proofs.Along.{lacking-start, lacking-walk, exhausted-row, own-count, along-next}
 use Rattle.accept.proofs.Questions.{accepted-run}
@@ -86,7 +86,8 @@ module _ {bytes : List ℕ} {p n : ℕ} {order starts before : List ℕ} (x : Fi
     -- what `add` asks
     pub add-asks : {w : Walk} → Exhausted t k w
         → Fits t × (k < size t) × (getD (w .done) (workerOf t k) 0 < 1024)
-    add-asks {w} e = (fits, place-below, omega (arith, own, rth-few place-rth, place-rth .ahead, holds .count, holds .few))
+    add-asks {w} e =
+        (fits, place-below, omega (arith, own, rth-few place-rth, place-rth .ahead, holds .count, holds .few))
       where
         own : getD (w .done) (workerOf t k) 0 ≡ earlier (workerOf t) k
         own = own-count fits e (accepted-run (x .accepted)) place-below
@@ -152,7 +153,8 @@ module _ {bytes : List ℕ} {p n : ℕ} {order starts before : List ℕ} (x : Fi
       }
 
   pub kept-end : {at : ℕ} {w : Walk} {notes : List ℕ} {freed : Bool} {now : List ℕ}
-      → KeptTo t order starts q at w notes freed before now → getD starts (q + 1) 0 ≤ at → FillsPart t starts q before now
+      → KeptTo t order starts q at w notes freed before now → getD starts (q + 1) 0 ≤ at
+      → FillsPart t starts q before now
   kept-end {at} s l old r =
       let e : at ≡ getD starts (q + 1) 0 = omega (arith, l, s .upper) in
       rw (← e) (s .rows old r)

@@ -146,7 +146,8 @@ module _ {bytes : List ℕ} {p n : ℕ} {order starts : List ℕ} (h : HoldsTrac
   pub rows-all : {at : ℕ} {old now : List ℕ} → RowsTo t starts at old now → at ≡ n → size t * t .workers ≤ length old
       → now ≡ writtenOver (orderTable t) old
   rows-all {at} {old} {now} r e room =
-      ext-getD 0 now (writtenOver (orderTable t) old) (r .same-length ∙ sym (written-length (orderTable t) old fits)) each
+      let long = written-length (orderTable t) old fits in
+      ext-getD 0 now (writtenOver (orderTable t) old) (r .same-length ∙ sym long) each
     where
       fits : length (orderTable t) ≤ length old
       fits = rw (rows-length t (size t)) room

@@ -65,7 +65,8 @@ fn exhaust(
         × Kept (traceOf (now file)) k (stateOf (now done) (now events)) freed
         × Noted (traceOf (now file)) k (stateOf (now done) (now events)) (now notes) ⌝ }
     ensures { λ r. ⌜ Exhausted (traceOf (now (file .entry))) k (stateOf (now (done .exit)) (now (events .exit)))
-        × Noted (traceOf (now (file .entry))) k (stateOf (now (done .exit)) (now (events .exit))) (now (notes .exit)) ⌝ }
+        × Noted (traceOf (now (file .entry))) k (stateOf (now (done .exit)) (now (events .exit)))
+        (now (notes .exit)) ⌝ }
 {
     if freed {
         walk::walk_on(file, p, n, order, starts, k, notes, done, events);

@@ -1,6 +1,6 @@
 -- Keeping a walk along one worker: from the end of the walk without an operation to the end of the walk without the
--- worker's next one. In order: the operation left out; the walk goes on from any run that lacks it; its end, which is blocked; the
--- row; the operation itself, added; where it is no Post, nothing else can go on.
+-- worker's next one. In order: the operation left out; the walk goes on from any run that lacks it; its end,
+-- and the row; the operation itself, added; where it is no Post, nothing else can go on; the two together.
 use mathlib.Core.Bool.{Bool, true, false, cond}
 use mathlib.Core.List.{List, [], _∷_, _++_}
 use mathlib.Core.Logic.{_⊎_, inl, inr, _≢_}
@@ -12,9 +12,8 @@ use lib.Dec.{eqb, ltb}
 use lib.ListN.{length, getD, set, take}
 use lib.Seq.{getD-set-same}
 use borrow.Author.Tests.{eq-eqb, ne-eqb}
-use Rattle.runs.specs.Greedy.{greedyFrom}
 use Rattle.runs.specs.Maximal.{MaximalWithout}
-use Rattle.runs.specs.Membership.{_∈_, _∉_}
+use Rattle.runs.specs.Membership.{_∉_}
 use Rattle.runs.specs.Rule.{without}
 use Rattle.runs.specs.Run.{Run}
 use Rattle.runs.specs.Steps.{done}
@@ -42,7 +41,7 @@ use Rattle.walk.specs.Events.{isPosted}
 use Rattle.walk.specs.Walks.{Fits, startWalk, nextOf, mayRun, move, added, walkFrom, runFrom}
 use Rattle.walk.proofs.Moves.{may-below, Moved, move-some, move-none, walk-stop}
 use Rattle.walk.proofs.NextOperations.{next-rth, rth-next}
-use Rattle.walk.proofs.Turns.{added-other}
+use Rattle.walk.proofs.Notes.{added-other}
 use Rattle.simulation.specs.Shows.{Walked, Ends, Lacking, Exhausted, Kept}
 use Rattle.simulation.proofs.Answers.{ends-row}
 use Rattle.simulation.proofs.Ends.{ends-count}

@@ -1,6 +1,6 @@
 -- Writing the two runs. In order: the walk that is written down, turn by turn; how long a run is; the run
 -- that holds an operation back, in two walks; both runs.
-use mathlib.Core.List.{List, [], _∷_, _++_, append-assoc, append-nil}
+use mathlib.Core.List.{List, [], _++_, append-assoc, append-nil}
 use mathlib.Core.Logic.{inl, inr}
 use mathlib.Core.Path.{_≡_, sym, ap, _∙_}
 use native.Mathlib.Nat.{sub-zero}
@@ -19,7 +19,8 @@ use Rattle.walk.specs.Walks.{startWalk, walkFrom, runFrom}
 use Rattle.walk.specs.declared.Walk.{Walk}
 use Rattle.walk.proofs.EventBits.{trace-fits}
 use Rattle.walk.proofs.Moves.{run-fewer}
-use Rattle.walk.proofs.Turns.{OnTheWay, due-end, way-start, way-turn, way-less, way-end, way-free}
+use Rattle.walk.proofs.Turns.{due-end}
+use Rattle.walk.proofs.Ways.{OnTheWay, way-start, way-turn, way-less, way-end, way-free}
 use Rattle.simulation.proofs.Walked.{run-held-back}
 use Rattle.accept.specs.Acceptance.{AcceptedTrace}
 use Rattle.accept.proofs.Questions.{accepted-workers, accepted-run}

@@ -1,5 +1,5 @@
 -- The steps of a walk. In order: an operation that may run; the worker that moves; at most so many steps, and what they
--- add. The loops that take them are in Loops.
+-- add. The turns in which they are taken are in Turns.
 use mathlib.Core.Bool.{Bool, true, false, cond}
 use mathlib.Core.List.{List, [], _∷_}
 use mathlib.Core.Logic.{_⊎_, inl, inr, _≢_}
@@ -41,11 +41,11 @@ module _ (t : Trace) (a : ℕ) (w : Walk) where
   ready q = mayRun t a (w .events) (nextOf t w q)
 
   module _ (q count : ℕ) where
-    pub from-here : ready q ≡ true → moveFrom t a w q (suc count) ≡ nextOf t w q
+    from-here : ready q ≡ true → moveFrom t a w q (suc count) ≡ nextOf t w q
     unfolding moveFrom
     from-here e = simp e
 
-    pub from-next : ready q ≡ false → moveFrom t a w q (suc count) ≡ moveFrom t a w (q + 1) count
+    from-next : ready q ≡ false → moveFrom t a w q (suc count) ≡ moveFrom t a w (q + 1) count
     unfolding moveFrom
     from-next e = simp e
 
@@ -58,7 +58,7 @@ module _ (t : Trace) (a : ℕ) (w : Walk) where
       may : ready worker ≡ true
       lowest : (r : ℕ) → q ≤ r → ready r ≡ true → worker ≤ r
 
-  pub from-none : (q : ℕ) → moveFrom t a w q 0 ≡ size t
+  from-none : (q : ℕ) → moveFrom t a w q 0 ≡ size t
   unfolding moveFrom
   from-none q = refl
 

@@ -1,146 +1,30 @@
--- A worker's turn. In order: the place where it stops; an operation that passes; while the workers below q are blocked,
--- the step is worker q's; it goes on alone; the Post that ends its turn; the end of its turn without one.
-use mathlib.Core.Bool.{Bool, true, false, not, _&&_, _||_, cond}
+-- A worker's turn. In order: while the workers below q are blocked, the step is worker q's; it goes on alone; the Post
+-- that ends its turn; the end of its turn without one, and its note.
+use mathlib.Core.Bool.{Bool, true, false, not, cond}
 use mathlib.Core.List.{List, [], _∷_, _++_, append-assoc}
 use mathlib.Core.Logic.{_⊎_, inl, inr, _≢_}
 use mathlib.Core.Path.{_≡_, refl, sym, ap, _∙_}
-use native.Mathlib.Nat.{add-zero, zero-add, sub-zero, mod-eq-of-lt}
-use native.Mathlib.Numerals.{add-one}
+use native.Mathlib.Nat.{add-zero, zero-add, sub-zero}
 use native.Mathlib.Omega.{arith}
-use Prim.Native.Nat.{ℕ, zero, suc, _+_, _-_, _*_, _%_, _<_, _≤_, min, max}
-use lib.Dec.{eqb, leb, ltb}
-use lib.ListN.{length, getD, set, take, drop, replicate, length-set, length-drop}
+use Prim.Native.Nat.{ℕ, zero, suc, _+_, _-_, _<_, _≤_, min, max}
+use lib.Dec.{eqb, leb}
+use lib.ListN.{length, getD, set, take, drop, length-set, length-drop}
 use lib.Seq.{getD-set-same, getD-set-other, set-set, set-getD, take-suc, getD-drop}
-use borrow.Author.Tests.{eqb-true, eq-eqb, ne-eqb, lt-ltb, le-ltb, lt-leb, le-leb, not-true}
+use borrow.Author.Tests.{eqb-true, lt-ltb, le-ltb, lt-leb, le-leb}
 use Rattle.runs.proofs.Booleans.{equal?, less?, zero-one}
-use Rattle.trace.specs.declared.Operation.{Operation}
 use Rattle.trace.specs.Reading.{traceOf}
-use Rattle.trace.specs.Trace.{Trace, size, operation, workerOf, isPost, isWait, isSync}
+use Rattle.trace.specs.Trace.{Trace, size, operation, workerOf, isPost, isWait}
 use Rattle.index.proofs.Lookups.{part-start, places-inside, place-operation, part-rth}
 use Rattle.walk.specs.declared.Walk.{Walk}
-use Rattle.walk.specs.Events.{isPosted, withPost}
+use Rattle.walk.specs.Events.{withPost}
 use Rattle.walk.specs.Turns.{passes, Listed, Stop, postsAt, EventAt, Why, nothing, waits, ends}
-use Rattle.walk.specs.Turns.{Noted, held, HeldTo, noteAt, Due, Turned}
-use Rattle.walk.specs.Walks.{Fits, Walkable, Placed, stateOf, nextOf, mayRun, move, added, walkFrom, runFrom}
-use Rattle.walk.proofs.EventBits.{zeros, posted-again, event-below, sync-below, trace-fits}
+use Rattle.walk.specs.Turns.{noteAt, Due, Turned}
+use Rattle.walk.specs.Walks.{Fits, Placed, stateOf, nextOf, mayRun, move, added, walkFrom, runFrom}
+use Rattle.walk.proofs.EventBits.{event-below, trace-fits}
 use Rattle.walk.proofs.Moves.{Moved, move-some, move-none, walk-zero, walk-stop, walk-step}
 use Rattle.walk.proofs.Moves.{run-zero, run-stop, run-step}
 use Rattle.walk.proofs.NextOperations.{next-rth, next-found, next-past}
-
--- ---- the place where it stops
-
--- all operations from place `from` on, below `at`, pass
-pub record PassedTo (t : Trace) (a : ℕ) (events order : List ℕ) (from end at : ℕ) : Type 0 where
-  pub from-on : from ≤ at
-  pub up-to : at ≤ max from end
-  pub each : (i : ℕ) → from ≤ i → i < at → passes t a events (getD order i 0) ≡ true
-
-pub passed-start : (t : Trace) (a : ℕ) (events order : List ℕ) (from end : ℕ)
-    → PassedTo t a events order from end from
-passed-start t a events order from end =
-    record { from-on = omega arith; up-to = omega arith; each = λ i h l. absurd (omega arith) }
-
-module _ {t : Trace} {a : ℕ} {events order : List ℕ} {from end at : ℕ} (s : PassedTo t a events order from end at) where
-  pub passed-more : at < end → passes t a events (getD order at 0) ≡ true
-      → PassedTo t a events order from end (at + 1)
-  passed-more l e = record { from-on = omega (arith, s .from-on); up-to = omega (arith, s .from-on); each = each }
-    where
-      each : (i : ℕ) → from ≤ i → i < at + 1 → passes t a events (getD order i 0) ≡ true
-      each i h k = elim (equal? i at) [ inl z ↦ rw z e | inr d ↦ s .each i h (omega (arith, d)) ]
-
-  pub passed-stop : passes t a events (getD order at 0) ≡ false → Stop t a events order from end at
-  passed-stop e = record { from-on = s .from-on; up-to = s .up-to; before = s .each; stops = λ l. e }
-
-  pub passed-end : end ≤ at → Stop t a events order from end at
-  passed-end h =
-      record { from-on = s .from-on; up-to = s .up-to; before = s .each; stops = λ l. absurd (omega (arith, l)) }
-
--- ---- an operation that passes
-
--- as the code tests it, with its event taken at most 255
-pub passes-test : {t : Trace} → Fits t → (a : ℕ) (events : List ℕ) {k : ℕ} → k < size t → {o : Operation}
-    → o ≡ operation t k
-    → (not (eqb k a) && (not (isSync (o .kind)) || isPosted events (o .number % 256))) ≡ passes t a events k
-unfolding passes
-passes-test {t} f a events {k} l {o} e = rw (← e) (go (eqb k a) (isSync (o .kind)) refl)
-  where
-    go : (x y : Bool) → isSync (o .kind) ≡ y
-        → (not x && (not y || isPosted events (o .number % 256))) ≡ cond x false (cond y (isPosted events (o .number)) true)
-    go true y i = refl
-    go false false i = refl
-    go false true i = rw (mod-eq-of-lt (sync-below f l e i))
-
--- the code's nest of tests: left out, a Post, a Wait, posted
-nest-may : (x y z u : Bool) → cond x false (cond (y || z) u true) ≡ true → cond x false (cond z u true) ≡ true
-nest-may true y z u e = e
-nest-may false y false u e = refl
-nest-may false true true u e = e
-nest-may false false true u e = e
-
-nest-posted : (x y z u : Bool) → y ≡ true → cond x false (cond (y || z) u true) ≡ true → u ≡ true
-nest-posted true y z u i e = absurd (zero-one cc)
-nest-posted false true z u i e = e
-nest-posted false false z u i e = absurd (zero-one cc)
-
-nest-blocked : (x y z u : Bool) → cond x false (cond (y || z) u true) ≡ false → cond x false y ≡ false
-    → cond x false (cond z u true) ≡ false
-nest-blocked true y z u e i = refl
-nest-blocked false true z u e i = absurd (zero-one cc)
-nest-blocked false false false u e i = e
-nest-blocked false false true u e i = e
-
-module _ (t : Trace) (a : ℕ) (events : List ℕ) (k : ℕ) (l : k < size t) where
-  -- it may run
-  pub passes-may : passes t a events k ≡ true → mayRun t a events k ≡ true
-  unfolding passes mayRun isSync
-  passes-may e =
-      let o = operation t k in
-      rw (lt-ltb k (size t) l)
-      (nest-may (eqb k a) (isPost (o .kind)) (isWait (o .kind)) (isPosted events (o .number)) e)
-
-  -- and changes no event
-  pub passes-keeps : passes t a events k ≡ true
-      → cond (isPost (operation t k .kind)) (withPost events (operation t k .number)) events ≡ events
-  unfolding passes isSync
-  passes-keeps e = go (isPost (operation t k .kind)) refl
-    where
-      go : (b : Bool) → isPost (operation t k .kind) ≡ b → cond b (withPost events (operation t k .number)) events ≡ events
-      go true i = posted-again events (operation t k .number) (nest-posted (eqb k a) _ _ _ i e)
-      go false i = refl
-
-  -- one that does not, and is no Post, may not run
-  pub stops-blocked : passes t a events k ≡ false → cond (eqb k a) false (isPost (operation t k .kind)) ≡ false
-      → mayRun t a events k ≡ false
-  unfolding passes mayRun isSync
-  stops-blocked e i =
-      let o = operation t k in
-      rw (lt-ltb k (size t) l)
-      (nest-blocked (eqb k a) (isPost (o .kind)) (isWait (o .kind)) (isPosted events (o .number)) e i)
-
-  -- a Post that is not left out may run
-  pub post-may : cond (eqb k a) false (isPost (operation t k .kind)) ≡ true
-      → (isPost (operation t k .kind) ≡ true) × (mayRun t a events k ≡ true)
-  unfolding mayRun
-  post-may e = rw (lt-ltb k (size t) l) (go (eqb k a) (operation t k .kind) e)
-    where
-      go : (x : Bool) (kind : ℕ) → cond x false (isPost kind) ≡ true
-          → (isPost kind ≡ true) × (cond x false (cond (isWait kind) (isPosted events (operation t k .number)) true) ≡ true)
-      go true kind i = absurd (zero-one cc)
-      go false kind i = let one = eqb-true kind 1 i in (i, rw one)
-
--- a number that no operation has may not run
-none-may : (t : Trace) (a : ℕ) (events : List ℕ) → mayRun t a events (size t) ≡ false
-unfolding mayRun
-none-may t a events = rw (le-ltb (size t) (size t) (omega arith))
-
--- nor may the operation left out
-left-out-may : (t : Trace) (a : ℕ) (events : List ℕ) → mayRun t a events a ≡ false
-unfolding mayRun
-left-out-may t a events = rw (eq-eqb a a refl) (go (ltb a (size t)))
-  where
-    go : (x : Bool) → cond x false false ≡ false
-    go true = refl
-    go false = refl
+use Rattle.walk.proofs.Passing.{passes-may, passes-keeps, stops-blocked, post-may, none-may}
 
 -- ---- while the workers below q are blocked, the step is worker q's
 
@@ -227,31 +111,32 @@ module _ {t : Trace} {a left : ℕ} {order : List ℕ} {from : ℕ} {w : Walk} {
     (g : Gone t a left order from w q m) (some : m < left) (hq : q < t .workers) {k : ℕ}
     (e : nextOf t (ahead w q m) q ≡ k) (l : k < size t) (at : getD order (from + m) 0 ≡ k)
     (inside : from + m < length order) (may : mayRun t a (w .events) k ≡ true) {events : List ℕ}
-    (now : cond (isPost (operation t k .kind)) (withPost (w .events) (operation t k .number)) (w .events) ≡ events) where
-  abbrev after : Walk
-  after = stateOf (set (w .done) q (getD (w .done) q 0 + suc m)) events
+    (now : cond (isPost (operation t k .kind)) (withPost (w .events) (operation t k .number)) (w .events) ≡ events)
+  where
+    abbrev after : Walk
+    after = stateOf (set (w .done) q (getD (w .done) q 0 + suc m)) events
 
-  own : workerOf t k ≡ q
-  own = rw (← e) (next-rth t (ahead w q m) q (rw e l) .own)
+    own : workerOf t k ≡ q
+    own = rw (← e) (next-rth t (ahead w q m) q (rw e l) .own)
 
-  moved : move t a (ahead w q m) ≡ k
-  moved = due-move (g .due) (omega arith) hq (rw e may) ∙ e
+    moved : move t a (ahead w q m) ≡ k
+    moved = due-move (g .due) (omega arith) hq (rw e may) ∙ e
 
-  step : added t (ahead w q m) (move t a (ahead w q m)) ≡ after
-  step = rw moved (ahead-added t w q wide m k own now)
+    step : added t (ahead w q m) (move t a (ahead w q m)) ≡ after
+    step = rw moved (ahead-added t w q wide m k own now)
 
-  -- one operation more
-  gone-walks : (s : ℕ) → walkFrom t a w (suc m + s) ≡ walkFrom t a after s
-  gone-walks s =
-      let later : suc m + s ≡ m + suc s = omega arith in
-      rw later (g .walks (suc s) ∙ walk-step t a (ahead w q m) s (rw moved l) ∙ rw step)
+    -- one operation more
+    gone-walks : (s : ℕ) → walkFrom t a w (suc m + s) ≡ walkFrom t a after s
+    gone-walks s =
+        let later : suc m + s ≡ m + suc s = omega arith in
+        rw later (g .walks (suc s) ∙ walk-step t a (ahead w q m) s (rw moved l) ∙ rw step)
 
-  gone-adds : (s : ℕ) → runFrom t a w (suc m + s) ≡ take (suc m) (drop from order) ++ runFrom t a after s
-  gone-adds s =
-      let later : suc m + s ≡ m + suc s = omega arith in
-      let last : take (suc m) (drop from order) ≡ take m (drop from order) ++ k ∷ []
-      = take-suc (drop from order) m 0 (simp length-drop (omega (arith, inside))) ∙ rw (getD-drop from order m 0, at) in
-      rw (later, last, append-assoc) (g .adds (suc s) ∙ rw (run-step t a (ahead w q m) s (rw moved l), step, moved))
+    gone-adds : (s : ℕ) → runFrom t a w (suc m + s) ≡ take (suc m) (drop from order) ++ runFrom t a after s
+    gone-adds s =
+        let later : suc m + s ≡ m + suc s = omega arith in
+        let last : take (suc m) (drop from order) ≡ take m (drop from order) ++ k ∷ []
+        = take-suc (drop from order) m 0 (simp length-drop (omega (arith, inside))) ∙ rw (getD-drop from order m 0, at) in
+        rw (later, last, append-assoc) (g .adds (suc s) ∙ rw (run-step t a (ahead w q m) s (rw moved l), step, moved))
 
 -- what the code asks of the file
 module _ {bytes order starts : List ℕ} (x : Placed bytes order starts) {q : ℕ} (hq : q < traceOf bytes .workers) where
@@ -268,7 +153,8 @@ module _ {bytes order starts : List ℕ} (x : Placed bytes order starts) {q : �
       each : (i : ℕ) → i < end → getD order i 0 < size (traceOf bytes)
       each i h = place-operation (x .holds) (x .indexed) i (omega (arith, h, l, part-few))
 
-  pub turn-event : (a : ℕ) {end at : ℕ} → end ≤ getD starts (q + 1) 0 → postsAt (traceOf bytes) order a end at ≡ true → EventAt (traceOf bytes) order at
+  pub turn-event : (a : ℕ) {end at : ℕ} → end ≤ getD starts (q + 1) 0 → postsAt (traceOf bytes) order a end at ≡ true
+      → EventAt (traceOf bytes) order at
   unfolding postsAt
   turn-event a {end} {at} l h = go (less? at end)
     where
@@ -485,177 +371,3 @@ module _ {bytes order starts : List ℕ} (x : Placed bytes order starts) {q : �
               part-end : (at < last) ⊎ (last ≤ at) → Why t a (ahead w q m) (cond (leb last at) 257 0) q
               part-end (inl i) = rw (lt-leb last at i) (nothing refl)
               part-end (inr i) = rw (le-leb last at i) (ends refl (inl (next-out m (omega (arith, i, at-is)))))
-
--- ---- turn by turn
-
--- the measure of a walk sinks where workers are passed over
-sinks : (x p : ℕ) {q r y : ℕ} → x + (p - q) < y → q ≤ r → x + (p - r) < y
-sinks x p l h = omega (arith, l, h)
-
--- the walk from `start`, of n steps, is at w: `left` steps are left, and it is worker q's turn
-pub record OnTheWay (t : Trace) (a : ℕ) (start : Walk) (n : ℕ) (w : Walk) (left q : ℕ) : Type 0 where
-  pub counters : length (w .done) ≡ 16
-  pub walks : walkFrom t a start n ≡ walkFrom t a w left
-  pub due : Due t a left w q
-
-pub way-start : (t : Trace) (a : ℕ) {start : Walk} (n : ℕ) → length (start .done) ≡ 16 → OnTheWay t a start n start n 0
-way-start t a {start} n l = record { counters = l; walks = refl; due = due-first t a n start }
-
-module _ {t : Trace} {a : ℕ} {start : Walk} {n : ℕ} {w : Walk} {left q : ℕ} (s : OnTheWay t a start n w left q)
-    {order : List ℕ} {from : ℕ} {w′ : Walk} {q′ : ℕ} (u : Turned t a left order from w q w′ q′) where
-  -- how many steps the turn took, by the counts
-  pub way-few : getD (w′ .done) q 0 - getD (w .done) q 0 ≤ left
-  way-few = omega (arith, u .count, u .few)
-
-  pub way-turn : OnTheWay t a start n w′ (left - (getD (w′ .done) q 0 - getD (w .done) q 0)) q′
-  way-turn = rw steps (record { counters = u .counters ∙ s .counters; walks = walks; due = u .due })
-    where
-      steps : left - (getD (w′ .done) q 0 - getD (w .done) q 0) ≡ left - u .taken
-      steps = omega (arith, u .count)
-
-      walks : walkFrom t a start n ≡ walkFrom t a w′ (left - u .taken)
-      walks =
-          let all : left ≡ u .taken + (left - u .taken) = omega (arith, u .few) in
-          s .walks ∙ ap (walkFrom t a w) all ∙ u .walks (left - u .taken)
-
-  -- each turn takes a step, or is followed by a higher worker's
-  pub way-less : {p r : ℕ} → p ≤ 16 → q < p → q′ ≤ r
-      → (left - (getD (w′ .done) q 0 - getD (w .done) q 0)) * 17 + (p - r) < left * 17 + (p - q)
-  way-less {p} h l m = sinks ((left - (getD (w′ .done) q 0 - getD (w .done) q 0)) * 17) p (elim (u .on) [
-    | inl e ↦ omega (arith, e, u .count, u .few)
-    | inr e ↦ omega (arith, e .0, e .1, u .count, u .few)
-  ]) m
-
-pub way-end : {t : Trace} {a : ℕ} {start : Walk} {n : ℕ} {w : Walk} {left q : ℕ} → OnTheWay t a start n w left q
-    → t .workers ≤ q → w ≡ walkFrom t a start n
-way-end {left = left} s l = sym (s .walks ∙ due-end left (s .due) l .0)
-
--- what a turn asks of the file
-pub way-asks : {bytes : List ℕ} {p n : ℕ} {order starts : List ℕ} → Walkable bytes p n order starts
-    → {a : ℕ} {start : Walk} {m : ℕ} {w : Walk} {left q : ℕ} → OnTheWay (traceOf bytes) a start m w left q → q < p
-    → {notes : List ℕ} → Noted (traceOf bytes) a w notes
-    → Placed bytes order starts × (q < traceOf bytes .workers) × (length (w .done) ≡ 16)
-    × Due (traceOf bytes) a left w q × Noted (traceOf bytes) a w notes
-way-asks x s l noted =
-    (rw (x .holds .workers, x .holds .count) x, rw (x .holds .workers) l, s .counters, s .due, noted)
-
--- ---- notes
-
--- at the start nothing is noted
-pub noted-start : (t : Trace) (a : ℕ) (w : Walk) → Noted t a w (replicate 16 0)
-noted-start t a w = record { entries = refl; why = λ r l. nothing (zeros 16 r) }
-
--- a Wait of an event that is not posted may not run
-wait-blocked : (t : Trace) (a : ℕ) (events : List ℕ) (k : ℕ) {e : ℕ} → isWait (operation t k .kind) ≡ true
-    → operation t k .number ≡ e → isPosted events e ≡ false → mayRun t a events k ≡ false
-unfolding mayRun
-wait-blocked t a events k wait number none = rw (wait, number, none) (go (ltb k (size t)) (eqb k a))
-  where
-    go : (x y : Bool) → cond x (cond y false false) false ≡ false
-    go true true = refl
-    go true false = refl
-    go false y = refl
-
-held-nothing : (events : List ℕ) → held 0 events ≡ true → ⊥
-unfolding held
-held-nothing events h = zero-one cc
-
-held-event : (e : ℕ) (events : List ℕ) → e < 256 → held (suc e) events ≡ true → isPosted events e ≡ false
-unfolding held
-held-event e events l h =
-    let some : eqb (suc e) 0 ≡ false = ne-eqb (suc e) 0 (λ z. omega (arith, z)) in
-    let other : eqb (suc e) 257 ≡ false = ne-eqb (suc e) 257 (λ z. omega (arith, z, l)) in
-    let same : (suc e + 255) % 256 ≡ e = omega (arith, l) in
-    not-true (isPosted events e) (rw (some, other, same) at h)
-
--- a worker that its note holds cannot go on
-pub noted-held : {t : Trace} {a : ℕ} {w : Walk} {notes : List ℕ} → Noted t a w notes → {q : ℕ} → q < t .workers
-    → held (getD notes q 0) (w .events) ≡ true → mayRun t a (w .events) (nextOf t w q) ≡ false
-noted-held {t} {a} {w} {notes} s {q} l h = go (s .why q l)
-  where
-    go : Why t a w (getD notes q 0) q → mayRun t a (w .events) (nextOf t w q) ≡ false
-    go (nothing e) = absurd (held-nothing (w .events) (rw e at h))
-    go (waits e i m wait number) =
-        wait-blocked t a (w .events) (nextOf t w q) wait number (held-event e (w .events) m (rw i at h))
-    go (ends e (inl i)) = rw i (none-may t a (w .events))
-    go (ends e (inr i)) = rw i (left-out-may t a (w .events))
-
--- looking for one that no note holds
-pub held-start : (p : ℕ) (notes events : List ℕ) (from : ℕ) → HeldTo p notes events from from
-held-start p notes events from =
-    record { from-on = omega arith; up-to = omega arith; each = λ i h l. absurd (omega arith) }
-
-pub held-more : {p : ℕ} {notes events : List ℕ} {from r : ℕ} → HeldTo p notes events from r → r < p
-    → held (getD notes r 0) events ≡ true → HeldTo p notes events from (r + 1)
-held-more {p} {notes} {events} {from} {r} s l e =
-    record { from-on = omega (arith, s .from-on); up-to = omega (arith, s .from-on, l); each = each }
-  where
-    each : (i : ℕ) → from ≤ i → i < r + 1 → held (getD notes i 0) events ≡ true
-    each i h k = elim (equal? i r) [ inl z ↦ rw z e | inr d ↦ s .each i h (omega (arith, k, d)) ]
-
--- those that are held are passed over
-pub way-free : {t : Trace} {a : ℕ} {start : Walk} {n : ℕ} {w : Walk} {left q : ℕ} → OnTheWay t a start n w left q
-    → {notes : List ℕ} → Noted t a w notes → {p : ℕ} → t .workers ≡ p → {r : ℕ} → HeldTo p notes (w .events) q r
-    → OnTheWay t a start n w left r
-way-free {t} {a} {w = w} {left = left} {q = q} s {notes} noted {p} e {r} h =
-    record { counters = s .counters; walks = s .walks; due = record { below = below } }
-  where
-    below : 0 < left → (i : ℕ) → i < r → mayRun t a (w .events) (nextOf t w i) ≡ false
-    below z i l = elim (less? i q) [
-      | inl m ↦ s .due .below z i m
-      | inr m ↦ noted-held noted (omega (arith, e, l, m, h .up-to)) (h .each i m l)
-    ]
-
--- the others' notes stay when worker q's counts and the events change
-why-same : {t : Trace} {a : ℕ} {w w′ : Walk} {note r : ℕ} → nextOf t w′ r ≡ nextOf t w r → Why t a w note r
-    → Why t a w′ note r
-why-same e (nothing i) = nothing i
-why-same e (waits x i l wait number) = waits x i l (rw e wait) (rw e number)
-why-same e (ends i z) = ends i (rw e z)
-
-next-same : (t : Trace) (done : List ℕ) (q x r : ℕ) → r ≢ q → (events events′ : List ℕ)
-    → nextOf t (stateOf (set done q x) events′) r ≡ nextOf t (stateOf done events) r
-unfolding nextOf
-next-same t done q x r d events events′ = rw (getD-set-other done q r x 0 d)
-
-pub noted-set : {t : Trace} {a : ℕ} {done events notes : List ℕ} → Noted t a (stateOf done events) notes → {q : ℕ}
-    → q < t .workers → t .workers ≤ 16 → (x : ℕ) {events′ : List ℕ} {note : ℕ}
-    → Why t a (stateOf (set done q x) events′) note q
-    → Noted t a (stateOf (set done q x) events′) (set notes q note)
-noted-set {t} {a} {done} {events} {notes} s {q} l most x {events′} {note} y =
-    record { entries = length-set notes q note ∙ s .entries; why = why }
-  where
-    why : (r : ℕ) → r < t .workers → Why t a (stateOf (set done q x) events′) (getD (set notes q note) r 0) r
-    why r m = elim (equal? r q) [
-      | inl i ↦ rw (i, getD-set-same notes q note 0 (omega (arith, l, most, s .entries))) y
-      | inr d ↦ rw (getD-set-other notes q r note 0 d) (why-same (next-same t done q x r d events events′) (s .why r m))
-    ]
-
--- ---- an operation added to the state
-
--- the next operations of the other workers are the same
-pub added-other : (t : Trace) (w : Walk) (a r : ℕ) → r ≢ workerOf t a → nextOf t (added t w a) r ≡ nextOf t w r
-unfolding added nextOf
-added-other t w a r d = rw (getD-set-other (w .done) (workerOf t a) r (getD (w .done) (workerOf t a) 0 + 1) 0 d)
-
--- where a was left out and is added, and b is left out then, the others' notes stay
-pub noted-added : {t : Trace} {a : ℕ} {w : Walk} {notes : List ℕ} → Noted t a w notes → a < size t
-    → workerOf t a < 16 → (b : ℕ) → Noted t b (added t w a) (set notes (workerOf t a) 0)
-noted-added {t} {a} {w} {notes} s l few b =
-    record { entries = length-set notes (workerOf t a) 0 ∙ s .entries; why = why }
-  where
-    still : {note r : ℕ} → r ≢ workerOf t a → Why t a w note r → Why t b (added t w a) note r
-    still d (nothing i) = nothing i
-    still {r = r} d (waits e i m wait number) =
-        let same = added-other t w a r d in
-        waits e i m (rw same wait) (rw same number)
-    still {r = r} d (ends i (inl z)) = ends i (inl (added-other t w a r d ∙ z))
-    still {r = r} d (ends i (inr z)) =
-        let own = next-rth t w r (rw z l) .own in
-        absurd (d (sym own ∙ ap (workerOf t) z))
-
-    why : (r : ℕ) → r < t .workers → Why t b (added t w a) (getD (set notes (workerOf t a) 0) r 0) r
-    why r m = elim (equal? r (workerOf t a)) [
-      | inl i ↦ nothing (rw i (getD-set-same notes (workerOf t a) 0 0 (omega (arith, few, s .entries))))
-      | inr d ↦ rw (getD-set-other notes (workerOf t a) r 0 0 d) (still d (s .why r m))
-    ]

@@ -45,8 +45,8 @@ pub record EventAt (t : Trace) (order : List ℕ) (at : ℕ) : Type 0 where
   pub below : getD order at 0 < size t
   pub event : operation t (getD order at 0) .number < 256
 
--- Notes, one for each worker, say why it stopped: 0, nothing noted; e + 1, its next operation is a Wait of event e; 257,
--- it has none left, or its next one is left out.
+-- Notes, one for each worker, say why it stopped: 0, nothing is noted; e + 1, its next operation is a Wait of event e;
+-- 257, it has none left, or its next one is left out.
 pub data Why (t : Trace) (a : ℕ) (w : Walk) (note r : ℕ) : Type 0 where
   nothing : note ≡ 0 → Why t a w note r
   waits : (e : ℕ) → note ≡ suc e → e < 256 → isWait (operation t (nextOf t w r) .kind) ≡ true

@@ -8,7 +8,8 @@ ghost use Rattle.trace.specs.Trace.{size, operation, workerOf, isPost};
 ghost use Rattle.walk.specs.Events.{isPosted, withPost};
 ghost use Rattle.walk.specs.Turns.{Listed, passes, Stop, postsAt, EventAt, Noted, held, noteAt};
 ghost use Rattle.walk.specs.Turns.{HeldTo, Due, Turned};
-ghost use Rattle.walk.specs.Walks.{Fits, Walkable, Placed, startWalk, stateOf, nextOf, added, walkFrom, lowestLeft};
+ghost use Rattle.walk.specs.Walks.{Fits, Walkable, Placed, startWalk, stateOf, nextOf, added, walkFrom};
+ghost use Rattle.walk.specs.Walks.{lowestLeft};
 
 // How many operations each worker has done, and the set of posted events: event e is bit e % 64 of word e / 64.
 pub struct Walk {
@@ -237,9 +238,9 @@ fn note_at(
     0
 }
 
-// Worker q's turn, of at most `left` operations: it goes on while its operations pass, and through a Post of an event that is not
-// posted. Answers whose turn it is then: worker 0's after such a Post, which may have freed others, and otherwise the
-// next worker's.
+// Worker q's turn, of at most `left` operations: it goes on while its operations pass, and takes a Post of an event that
+// is not posted. Answers whose turn it is then: worker 0's after such a Post, which may have freed others, and otherwise
+// the next worker's.
 pub fn turn(
     file: &[u8],
     order: &[u16; 1024],

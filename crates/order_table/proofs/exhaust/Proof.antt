@@ -1,5 +1,4 @@
 -- `exhaust` meets its contract. Assumes nothing.
-use borrow.Author.Needs.{needs}
 use Rattle.order_table.proofs.Keeping.{exhausted-walk, exhausted-still}
 use Rattle.order_table.proofs.exhaust.Statement.{statement}
 use Rattle.order_table.proofs.exhaust.Tie as tie

@@ -58,7 +58,8 @@ returns c =
     let c1 = c .before in
     let c4 = c1 .before .before .before in
     let (accepted, holds, room) = c4 .before .before .before .pre in
-    workers-all holds (c4 .index-of .ensures) (c1 .loop .inv .1) (omega (arith, c .loop-test .left, c1 .loop .inv .0)) room
+    let (few, rows) = c1 .loop .inv in
+    workers-all holds (c4 .index-of .ensures) rows (omega (arith, c .loop-test .left, few)) room
 
 pub fill-spec : {M : Type 1} → statement M
 fill-spec =

@@ -33,7 +33,9 @@ mul-wide-2 : tie.Need-mul-wide-2 Inv-loop μ-loop
 mul-wide-2 c = search needs
 
 element-copy-out-wide-2 : tie.Need-element-copy-out-wide-2 Inv-loop μ-loop
-element-copy-out-wide-2 c = let (x, hq) = c .before .before .before .before .pre in omega (arith, hq, x .walkable .holds .most)
+element-copy-out-wide-2 c =
+    let (x, hq) = c .before .before .before .before .pre in
+    omega (arith, hq, x .walkable .holds .most)
 
 wide-requires-2 : tie.Need-wide-requires-2 Inv-loop μ-loop
 wide-requires-2 c κs = search needs
@@ -91,7 +93,8 @@ add-requires c κs =
     let (x, hq) = s .pre in
     let lower = c3 .loop .inv .lower in
     let upper = rw (c3 .before .wide2 .ensures .0) at (c0 .before .before .loop-test .taken) in
-    let e = rw (c0 .wide3 .ensures .0) at (c .before .before .before .before .before .before .before .exhaust .ensures .0) in
+    let c7 = c .before .before .before .before .before .before .before in
+    let e = rw (c0 .wide3 .ensures .0) at (c7 .exhaust .ensures .0) in
     rw (c0 .wide3 .ensures .0) (add-asks x hq lower upper e)
 
 mul-notes : tie.Need-mul-notes Inv-loop μ-loop
@@ -136,7 +139,8 @@ loop-again c =
     let (x, hq) = s .pre in
     let lower = c3 .loop .inv .lower in
     let upper = rw (c3 .before .wide2 .ensures .0) at (c0 .before .before .loop-test .taken) in
-    let (e, noted) = rw (c0 .wide3 .ensures .0) at (c .before .before .before .before .before .before .before .before .exhaust .ensures) in
+    let c8 = c .before .before .before .before .before .before .before .before in
+    let (e, noted) = rw (c0 .wide3 .ensures .0) at (c8 .exhaust .ensures) in
     let (state, post) = rw (c0 .wide3 .ensures .0) at (c .add .ensures) in
     let row = rw (c0 .wide3 .ensures .0) at (c .before .before .before .before .before .put-row .ensures) in
     kept-more x hq lower upper (c3 .loop .inv) e noted state post row

@@ -50,13 +50,16 @@ loop-less c = search needs
 loop-again : tie.Need-loop-again Inv-loop μ-loop
 loop-again c =
     let s = c .before .before .before in
-    copied-more (s .args .order .now) (s .args .from) (c .before .before .before .pre) (c .before .before .loop .inv) (c .before .loop-test .taken)
+    copied-more (s .args .order .now) (s .args .from) (s .pre) (c .before .before .loop .inv)
+    (c .before .loop-test .taken)
 
 same-length : tie.Need-same-length Inv-loop μ-loop
 same-length c = c .before .loop .inv .size
 
 returns : tie.Need-returns Inv-loop μ-loop
-returns c = copied-all (c .before .before .args .order .now) (c .before .before .args .from) (c .before .loop .inv) (c .loop-test .left)
+returns c =
+    let s = c .before .before in
+    copied-all (s .args .order .now) (s .args .from) (c .before .loop .inv) (c .loop-test .left)
 
 pub copy-places-spec : {M : Type 1} → statement M
 copy-places-spec =

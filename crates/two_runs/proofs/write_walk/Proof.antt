@@ -9,7 +9,8 @@ use Rattle.trace.specs.Reading.{traceOf}
 use Rattle.index.proofs.Lookups.{places-inside}
 use Rattle.walk.specs.Turns.{Noted}
 use Rattle.walk.specs.Walks.{stateOf}
-use Rattle.walk.proofs.Turns.{way-asks, noted-start}
+use Rattle.walk.proofs.Notes.{noted-start}
+use Rattle.walk.proofs.Ways.{way-asks}
 use Rattle.two_runs.proofs.Writing.{WalkedSoFar, walked-none, taken-is, turn-copies, walked-less}
 use Rattle.two_runs.proofs.Writing.{walked-turn, walked-free, walked-end}
 use Rattle.two_runs.proofs.write_walk.Statement.{statement}
@@ -115,7 +116,7 @@ loop-again c =
     let places = rw (← x .holds .count) at (places-inside (x .holds) (x .indexed)) in
     let more = taken-is s u places _ (c13 .next-place .ensures .0) (c7 .next-place2 .ensures .0) in
     let next = walked-turn s u places more (add-sub-cancel-left (c16 .loop .at) _) (c13 .next-place .ensures .0)
-        (c5 .copy-places .ensures) in
+    (c5 .copy-places .ensures) in
     let noted = c9 .turn .ensures .1 in
     (walked-free next noted (x .holds .workers) (c .next-free .ensures), noted)
 

@@ -5,7 +5,7 @@ use Prim.Native.Nat.{_≤_, _-_}
 use borrow.Author.Needs.{needs}
 use Rattle.trace.specs.Reading.{traceOf}
 use Rattle.walk.specs.Walks.{lowestLeft}
-use Rattle.walk.proofs.Loops.{lowest-none, lowest-new, lowest-old}
+use Rattle.walk.proofs.LowestLeft.{lowest-none, lowest-new, lowest-old}
 use Rattle.walk.proofs.lowest_left.Statement.{statement}
 use Rattle.walk.proofs.lowest_left.Tie as tie
 

@@ -5,7 +5,7 @@ use Prim.Native.Nat.{_-_}
 use borrow.Author.Needs.{needs}
 use borrow.Author.Tests.{not-false}
 use Rattle.walk.specs.Turns.{HeldTo}
-use Rattle.walk.proofs.Turns.{held-start, held-more}
+use Rattle.walk.proofs.Notes.{held-start, held-more}
 use Rattle.walk.proofs.next_free.Statement.{statement}
 use Rattle.walk.proofs.next_free.Tie as tie
 

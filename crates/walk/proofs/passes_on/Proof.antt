@@ -1,7 +1,7 @@
 -- `passes_on` meets its contract. Assumes nothing.
 use mathlib.Core.Path.{_∙_}
 use borrow.Author.Needs.{needs}
-use Rattle.walk.proofs.Turns.{passes-test}
+use Rattle.walk.proofs.Passing.{passes-test}
 use Rattle.walk.proofs.passes_on.Statement.{statement}
 use Rattle.walk.proofs.passes_on.Tie as tie
 

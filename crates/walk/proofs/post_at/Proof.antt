@@ -17,7 +17,9 @@ operation-of-requires : tie.Need-operation-of-requires
 operation-of-requires c κs = search needs
 
 post-requires : tie.Need-post-requires
-post-requires c κs = rw (c .before .operation-of .ensures, c .before .before .wide .ensures .0) (c .before .before .before .before .before .pre .event)
+post-requires c κs =
+    let c2 = c .before .before in
+    rw (c .before .operation-of .ensures, c2 .wide .ensures .0) (c2 .before .before .before .pre .event)
 
 returns : tie.Need-returns
 returns c =

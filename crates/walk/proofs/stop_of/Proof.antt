@@ -5,7 +5,7 @@ use Prim.Native.Nat.{_-_}
 use borrow.Author.Needs.{needs}
 use borrow.Author.Tests.{not-true, not-false}
 use Rattle.trace.specs.Reading.{traceOf}
-use Rattle.walk.proofs.Turns.{PassedTo, passed-start, passed-more, passed-stop, passed-end}
+use Rattle.walk.proofs.Passing.{PassedTo, passed-start, passed-more, passed-stop, passed-end}
 use Rattle.walk.proofs.stop_of.Statement.{statement}
 use Rattle.walk.proofs.stop_of.Tie as tie
 

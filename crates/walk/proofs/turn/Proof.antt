@@ -8,7 +8,8 @@ use borrow.Author.Needs.{needs}
 use Rattle.trace.specs.Reading.{traceOf}
 use Rattle.trace.specs.Trace.{Trace}
 use Rattle.walk.specs.Turns.{EventAt, nothing}
-use Rattle.walk.proofs.Turns.{turn-listed, turn-event, turned-post, turned-on, why-on, noted-set}
+use Rattle.walk.proofs.Turns.{turn-listed, turn-event, turned-post, turned-on, why-on}
+use Rattle.walk.proofs.Notes.{noted-set}
 use Rattle.walk.proofs.turn.Statement.{statement}
 use Rattle.walk.proofs.turn.Tie as tie
 
@@ -75,8 +76,7 @@ returns c =
     let (x, hq, long, d, noted) = c9 .before .before .before .pre in
     let from = c9 .next-place .ensures .0 in
     let posts = sym (c5 .posts-at .ensures) ∙ c2 .before .before .if1 .taken in
-    let more = rw from at (c .advance .ensures) in
-    (
+    let more = rw from at (c .advance .ensures) in (
       turned-post x hq _ _ long d (rw from at (c6 .before .before .limit .ensures)) (rw from at (c6 .stop-of .ensures))
           posts (c2 .post-at .ensures) more,
       rw more (noted-set noted hq (x .holds .most) _ (nothing refl)),
@@ -87,7 +87,8 @@ note-at-requires c κs =
     let c2 = c .before .before in
     let c5 = c2 .before .before .before in
     let (x, hq, long, d, noted) = c5 .before .before .before .pre in
-    let (fits, listed) = turn-listed x hq {end = c2 .before .before .limit .result} (omega (arith, c2 .before .before .limit .ensures)) in
+    let c4 = c2 .before .before in
+    let (fits, listed) = turn-listed x hq {end = c4 .limit .result} (omega (arith, c4 .limit .ensures)) in
     (fits, listed, omega (arith, hq, x .holds .most))
 
 mul-notes-2 : tie.Need-mul-notes-2
@@ -105,8 +106,10 @@ advance-requires-2 c κs =
     let c8 = c5 .before .before .before in
     let (x, hq, long, d, noted) = c8 .before .before .before .pre in
     let stop = c5 .stop-of .ensures in
-    let end = turn-listed x hq {end = c5 .before .before .limit .result} (omega (arith, c5 .before .before .limit .ensures)) .1 .inside in
-    (omega (arith, hq, x .holds .most), omega (arith, stop .from-on, stop .up-to, end, c8 .next-place .ensures .0, c8 .next-place .ensures .1))
+    let c7 = c5 .before .before in
+    let end = turn-listed x hq {end = c7 .limit .result} (omega (arith, c7 .limit .ensures)) .1 .inside in
+    let (place, small) = c8 .next-place .ensures in
+    (omega (arith, hq, x .holds .most), omega (arith, stop .from-on, stop .up-to, end, place, small))
 
 add-result : tie.Need-add-result
 add-result c = search needs
@@ -122,8 +125,7 @@ returns-2 c =
     let posts = sym (c4 .posts-at .ensures) ∙ c2 .before .if1 .left in
     let more = rw from at (c .advance2 .ensures) in
     let end = rw from at (c5 .before .before .limit .ensures) in
-    let stop = rw from at (c5 .stop-of .ensures) in
-    (
+    let stop = rw from at (c5 .stop-of .ensures) in (
       turned-on x hq _ _ long d end stop posts more,
       rw (more, c2 .note-at .ensures) (noted-set noted hq (x .holds .most) _ (why-on x hq _ _ long d end stop)),
     )

@@ -1,6 +1,6 @@
 -- `walk_from` meets its contract. Assumes nothing.
 use borrow.Author.Needs.{needs}
-use Rattle.walk.proofs.Turns.{noted-start}
+use Rattle.walk.proofs.Notes.{noted-start}
 use Rattle.walk.proofs.walk_from.Statement.{statement}
 use Rattle.walk.proofs.walk_from.Tie as tie
 

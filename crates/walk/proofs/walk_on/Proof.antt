@@ -1,12 +1,12 @@
--- `walk_on` meets its contract. The invariant: the walk is on its way, with `left` steps left, it is worker q's turn, and
--- the notes are right. Assumes nothing.
+-- `walk_on` meets its contract. The invariant: the walk is on its way, with `left` steps left, it is worker q's turn,
+-- and the notes are right. Assumes nothing.
 use native.Mathlib.Omega.{arith}
 use Prim.Native.Nat.{_+_, _-_, _*_}
 use borrow.Author.Needs.{needs}
 use Rattle.trace.specs.Reading.{traceOf}
 use Rattle.walk.specs.Turns.{Noted}
 use Rattle.walk.specs.Walks.{stateOf}
-use Rattle.walk.proofs.Turns.{OnTheWay, way-start, way-few, way-turn, way-less, way-end, way-asks, way-free}
+use Rattle.walk.proofs.Ways.{OnTheWay, way-start, way-few, way-turn, way-less, way-end, way-asks, way-free}
 use Rattle.walk.proofs.walk_on.Statement.{statement}
 use Rattle.walk.proofs.walk_on.Tie as tie
 
