@@ -88,8 +88,9 @@ fn fill_worker(
     ensures { λ r. ⌜ FillsPart (traceOf (now (file .entry))) (now (starts .entry)) q (now (table .entry))
         (now (table .exit)) ⌝ }
 {
-    let mut done = [0u16; 16];
-    let mut events = [0u64; 4];
+    let start = walk::start_walk();
+    let mut done = start.done;
+    let mut events = start.events;
     let mut notes = [0u16; 16];
     let mut freed = true;
     let mut at = wide(starts[q]);

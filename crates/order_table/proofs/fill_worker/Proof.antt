@@ -1,6 +1,5 @@
 -- `fill_worker` meets its contract. The invariant: the rows before place `at` are written, and the walk is kept for the
 -- operation there. Assumes nothing.
-use mathlib.Core.Path.{refl}
 use native.Mathlib.Omega.{arith}
 use Prim.Native.Nat.{_-_}
 use borrow.Author.Needs.{needs}
@@ -17,11 +16,14 @@ Inv-loop file p n order starts q table₀ done₀ events₀ notes₀ freed₀ at
 abbrev μ-loop : tie.MeasureT-loop
 μ-loop file p n order starts q table₀ done₀ events₀ notes₀ freed₀ at₀ end table done events notes freed at = end - at
 
+start-walk-requires : tie.Need-start-walk-requires Inv-loop μ-loop
+start-walk-requires c κs = search needs
+
 mul-wide : tie.Need-mul-wide Inv-loop μ-loop
 mul-wide c = search needs
 
 element-copy-out-wide : tie.Need-element-copy-out-wide Inv-loop μ-loop
-element-copy-out-wide c = let (x, hq) = c .before .before .pre in omega (arith, hq, x .walkable .holds .most)
+element-copy-out-wide c = let (x, hq) = c .before .before .before .before .before .pre in omega (arith, hq, x .walkable .holds .most)
 
 wide-requires : tie.Need-wide-requires Inv-loop μ-loop
 wide-requires c κs = search needs
@@ -34,7 +36,7 @@ mul-wide-2 c = search needs
 
 element-copy-out-wide-2 : tie.Need-element-copy-out-wide-2 Inv-loop μ-loop
 element-copy-out-wide-2 c =
-    let (x, hq) = c .before .before .before .before .pre in
+    let (x, hq) = c .before .before .before .before .before .before .before .pre in
     omega (arith, hq, x .walkable .holds .most)
 
 wide-requires-2 : tie.Need-wide-requires-2 Inv-loop μ-loop
@@ -42,13 +44,14 @@ wide-requires-2 c κs = search needs
 
 loop-holds : tie.Need-loop-holds Inv-loop μ-loop
 loop-holds c =
-    let (x, hq) = c .before .before .before .before .before .before .pre in
-    rw (c .before .before .wide .ensures .0) (kept-start x hq refl)
+    let c6 = c .before .before .before .before .before .before in
+    let (x, hq) = c6 .before .before .before .pre in
+    rw (c .before .before .wide .ensures .0) (kept-start x hq (c6 .start-walk .ensures))
 
 mul-wide-3 : tie.Need-mul-wide-3 Inv-loop μ-loop
 mul-wide-3 c =
     let c1 = c .before in
-    let (x, hq) = c1 .before .before .before .before .before .before .before .pre in
+    let (x, hq) = c1 .before .before .before .before .before .before .before .before .before .before .pre in
     let upper = rw (c1 .before .wide2 .ensures .0) at (c .loop-test .taken) in
     let few = place-few x hq (c1 .loop .inv .lower) upper in
     record { fits = omega (arith, few) }
@@ -56,7 +59,7 @@ mul-wide-3 c =
 element-copy-out-wide-3 : tie.Need-element-copy-out-wide-3 Inv-loop μ-loop
 element-copy-out-wide-3 c =
     let c1 = c .before in
-    let (x, hq) = c1 .before .before .before .before .before .before .before .pre in
+    let (x, hq) = c1 .before .before .before .before .before .before .before .before .before .before .pre in
     let upper = rw (c1 .before .wide2 .ensures .0) at (c .loop-test .taken) in
     place-few x hq (c1 .loop .inv .lower) upper
 
@@ -67,7 +70,7 @@ exhaust-requires : tie.Need-exhaust-requires Inv-loop μ-loop
 exhaust-requires c κs =
     let c0 = c .before .before .before in
     let c3 = c0 .before .before .before in
-    let s = c3 .before .before .before .before .before .before .before in
+    let s = c3 .before .before .before .before .before .before .before .before .before .before in
     let (x, hq) = s .pre in
     let lower = c3 .loop .inv .lower in
     let upper = rw (c3 .before .wide2 .ensures .0) at (c0 .before .before .loop-test .taken) in
@@ -78,7 +81,7 @@ put-row-requires : tie.Need-put-row-requires Inv-loop μ-loop
 put-row-requires c κs =
     let c0 = c .before .before .before .before .before .before in
     let c3 = c0 .before .before .before in
-    let s = c3 .before .before .before .before .before .before .before in
+    let s = c3 .before .before .before .before .before .before .before .before .before .before in
     let (x, hq) = s .pre in
     let lower = c3 .loop .inv .lower in
     let upper = rw (c3 .before .wide2 .ensures .0) at (c0 .before .before .loop-test .taken) in
@@ -89,7 +92,7 @@ add-requires : tie.Need-add-requires Inv-loop μ-loop
 add-requires c κs =
     let c0 = c .before .before .before .before .before .before .before .before .before .before .before in
     let c3 = c0 .before .before .before in
-    let s = c3 .before .before .before .before .before .before .before in
+    let s = c3 .before .before .before .before .before .before .before .before .before .before in
     let (x, hq) = s .pre in
     let lower = c3 .loop .inv .lower in
     let upper = rw (c3 .before .wide2 .ensures .0) at (c0 .before .before .loop-test .taken) in
@@ -101,7 +104,7 @@ mul-notes : tie.Need-mul-notes Inv-loop μ-loop
 mul-notes c =
     let c0 = c .before .before .before .before .before .before .before .before .before .before .before .before in
     let c3 = c0 .before .before .before in
-    let s = c3 .before .before .before .before .before .before .before in
+    let s = c3 .before .before .before .before .before .before .before .before .before .before in
     let (x, hq) = s .pre in
     let lower = c3 .loop .inv .lower in
     let upper = rw (c3 .before .wide2 .ensures .0) at (c0 .before .before .loop-test .taken) in
@@ -111,7 +114,7 @@ array-write-notes : tie.Need-array-write-notes Inv-loop μ-loop
 array-write-notes c =
     let c0 = c .before .before .before .before .before .before .before .before .before .before .before .before in
     let c3 = c0 .before .before .before in
-    let s = c3 .before .before .before .before .before .before .before in
+    let s = c3 .before .before .before .before .before .before .before .before .before .before in
     let (x, hq) = s .pre in
     let lower = c3 .loop .inv .lower in
     let upper = rw (c3 .before .wide2 .ensures .0) at (c0 .before .before .loop-test .taken) in
@@ -121,7 +124,7 @@ add-at : tie.Need-add-at Inv-loop μ-loop
 add-at c =
     let c0 = c .before .before .before .before .before .before .before .before .before .before .before .before in
     let c3 = c0 .before .before .before in
-    let s = c3 .before .before .before .before .before .before .before in
+    let s = c3 .before .before .before .before .before .before .before .before .before .before in
     let (x, hq) = s .pre in
     let lower = c3 .loop .inv .lower in
     let upper = rw (c3 .before .wide2 .ensures .0) at (c0 .before .before .loop-test .taken) in
@@ -135,7 +138,7 @@ loop-again : tie.Need-loop-again Inv-loop μ-loop
 loop-again c =
     let c0 = c .before .before .before .before .before .before .before .before .before .before .before .before in
     let c3 = c0 .before .before .before in
-    let s = c3 .before .before .before .before .before .before .before in
+    let s = c3 .before .before .before .before .before .before .before .before .before .before in
     let (x, hq) = s .pre in
     let lower = c3 .loop .inv .lower in
     let upper = rw (c3 .before .wide2 .ensures .0) at (c0 .before .before .loop-test .taken) in
@@ -151,7 +154,7 @@ same-length c = c .before .loop .inv .same-length
 returns : tie.Need-returns Inv-loop μ-loop
 returns c =
     let c1 = c .before in
-    let (x, hq) = c1 .before .before .before .before .before .before .before .pre in
+    let (x, hq) = c1 .before .before .before .before .before .before .before .before .before .before .pre in
     kept-end x hq (c1 .loop .inv) (omega (arith, c .loop-test .left, c1 .before .wide2 .ensures .0))
 
 pub fill-worker-spec : {M : Type 1} → statement M
@@ -160,6 +163,7 @@ fill-worker-spec =
     (tie.spec
     Inv-loop
     μ-loop
+    start-walk-requires
     mul-wide
     element-copy-out-wide
     wide-requires
