@@ -6,3 +6,6 @@ pub mod RaceLists
 pub mod OnlyList
 pub mod Chain
 pub mod TableEntries
+pub mod RowTests
+pub mod RowSteps
+pub mod RowLists

@@ -1,0 +1,226 @@
+-- The loops over the arrays. In order: reading the cells; reading the workers and their entries; marking the operations
+-- in conflict with a; listing those that race with it; where there are none.
+use mathlib.Core.Bool.{Bool, true, false}
+use mathlib.Core.List.{List, [], _∷_, _++_}
+use mathlib.Core.Logic.{inl, inr}
+use mathlib.Core.Path.{_≡_, refl, sym, ap, _∙_}
+use native.Mathlib.Nat.{add-zero}
+use native.Mathlib.Numerals.{add-one}
+use native.Mathlib.Omega.{arith}
+use Prim.Native.Nat.{ℕ, zero, suc, _+_, _*_, _<_, _≤_}
+use lib.ListN.{length, getD, set, take, length-set}
+use lib.Seq.{getD-set-same, getD-set-other, take-suc-set, take-set-le}
+use Rattle.runs.proofs.Booleans.{equal?}
+use Rattle.trace.specs.Trace.{Trace, size, operation, workerOf}
+use Rattle.race_search.specs.RaceList.{inConflict, isRace}
+use Rattle.race_search.specs.Rows.{bit, Cells, CellsBelow, PlacesBelow, ConflictsBelow, MarksAtMost}
+use Rattle.race_search.specs.Rows.{passing, RowListed}
+use Rattle.race_search.proofs.RaceTests.{no-race-ahead, race-no-conflict, race-access}
+use Rattle.race_search.proofs.RowLists.{passing-more, passing-same, passing-none, row-none}
+use Rattle.race_search.proofs.RowTests.{bit-few, bit-none, cells-apart}
+
+-- ---- reading the cells
+
+-- the cells of the operations below k are read
+pub record CellsRead (t : Trace) (k : ℕ) (first last writes : List ℕ) : Type 0 where
+  pub first-long : length first ≡ 1024
+  pub last-long : length last ≡ 1024
+  pub writes-long : length writes ≡ 1024
+  pub cells : CellsBelow t k first last writes
+
+module _ {t : Trace} {first last writes : List ℕ} where
+  pub cells-start : length first ≡ 1024 → length last ≡ 1024 → length writes ≡ 1024
+      → CellsRead t 0 first last writes
+  cells-start e f g =
+      record {
+        first-long = e;
+        last-long = f;
+        writes-long = g;
+        cells = record { each = λ k l. absurd (omega arith) };
+      }
+
+  module _ {k : ℕ} (r : CellsRead t k first last writes) where
+    pub cells-more : {x y z : ℕ} → k < 1024 → Cells (operation t k) x y z
+        → CellsRead t (k + 1) (set first k x) (set last k y) (set writes k z)
+    cells-more {x} {y} {z} l c =
+        record {
+          first-long = simp length-set (r .first-long);
+          last-long = simp length-set (r .last-long);
+          writes-long = simp length-set (r .writes-long);
+          cells = record { each = each };
+        }
+      where
+        each : (j : ℕ) → j < k + 1
+            → Cells (operation t j) (getD (set first k x) j 0) (getD (set last k y) j 0) (getD (set writes k z) j 0)
+        each j i = elim (equal? j k) [
+          | inl e ↦
+              rw (
+                e,
+                getD-set-same first k x 0 (omega (arith, r .first-long)),
+                getD-set-same last k y 0 (omega (arith, r .last-long)),
+                getD-set-same writes k z 0 (omega (arith, r .writes-long)),
+              ) c
+          | inr d ↦
+              rw (
+                getD-set-other first k j x 0 d,
+                getD-set-other last k j y 0 d,
+                getD-set-other writes k j z 0 d,
+              ) (r .cells .each j (omega (arith, d)))
+        ]
+
+    pub cells-end : {n : ℕ} → n ≤ k → CellsBelow t n first last writes
+    cells-end l = record { each = λ j i. r .cells .each j (omega arith) }
+
+-- ---- reading the workers and their entries
+
+-- those of the operations below k are read
+pub record PlacesRead (t : Trace) (k : ℕ) (table workers own : List ℕ) : Type 0 where
+  pub workers-long : length workers ≡ 1024
+  pub own-long : length own ≡ 1024
+  pub places : PlacesBelow t k table workers own
+
+module _ {t : Trace} {table workers own : List ℕ} where
+  pub places-start : length workers ≡ 1024 → length own ≡ 1024 → PlacesRead t 0 table workers own
+  places-start e f =
+      record {
+        workers-long = e;
+        own-long = f;
+        places = record { worker = λ k l. absurd (omega arith); entry = λ k l. absurd (omega arith) };
+      }
+
+  module _ {k : ℕ} (r : PlacesRead t k table workers own) where
+    pub places-more : {p q i : ℕ} → k < 1024 → p ≡ t .workers → q ≡ workerOf t k → i ≡ q
+        → PlacesRead t (k + 1) table (set workers k q) (set own k (getD table (k * p + i) 0))
+    places-more {p} {q} {i} l e f g =
+        record {
+          workers-long = simp length-set (r .workers-long);
+          own-long = simp length-set (r .own-long);
+          places = record { worker = worker; entry = entry };
+        }
+      where
+        worker : (j : ℕ) → j < k + 1 → getD (set workers k q) j 0 ≡ workerOf t j
+        worker j h = elim (equal? j k) [
+          | inl z ↦ rw (z, getD-set-same workers k q 0 (omega (arith, r .workers-long))) f
+          | inr d ↦ rw (getD-set-other workers k j q 0 d) (r .places .worker j (omega (arith, d)))
+        ]
+
+        own-entry : ℕ
+        own-entry = getD table (k * p + i) 0
+
+        entry : (j : ℕ) → j < k + 1 → getD (set own k own-entry) j 0 ≡ getD table (j * t .workers + workerOf t j) 0
+        entry j h = elim (equal? j k) [
+          | inl z ↦ rw (z, getD-set-same own k own-entry 0 (omega (arith, r .own-long)), e, g, f)
+          | inr d ↦ rw (getD-set-other own k j own-entry 0 d) (r .places .entry j (omega (arith, d)))
+        ]
+
+    pub places-end : {n : ℕ} → n ≤ k → PlacesBelow t n table workers own
+    places-end l =
+        record { worker = λ j i. r .places .worker j (omega arith); entry = λ j i. r .places .entry j (omega arith) }
+
+-- ---- marking the operations in conflict with a
+
+-- those below b are marked
+pub record Marked (t : Trace) (a b : ℕ) (marks : List ℕ) (count : ℕ) : Type 0 where
+  pub few : count + a < b
+  pub conflicts : ConflictsBelow t a b marks
+  pub most : MarksAtMost a b marks count
+
+module _ {t : Trace} {a : ℕ} {marks : List ℕ} where
+  pub mark-start : length marks ≡ 1024 → Marked t a (a + 1) marks 0
+  mark-start e =
+      record {
+        few = omega arith;
+        conflicts = record { long = e; marked = λ b i j. absurd (omega arith) };
+        most = record { most = λ b i j. absurd (omega arith) };
+      }
+
+  module _ {b count : ℕ} (m : Marked t a b marks count) where
+    pub mark-more : {mark wide : ℕ} → b < 1024 → mark ≡ bit (inConflict (operation t a) (operation t b)) → wide ≡ mark
+        → Marked t a (b + 1) (set marks b mark) (count + wide)
+    mark-more {mark} {wide} l e f =
+        record {
+          few = omega (arith, m .few, e, f, bit-few (inConflict (operation t a) (operation t b)));
+          conflicts = record { long = simp length-set (m .conflicts .long); marked = marked };
+          most = record { most = most };
+        }
+      where
+        here : getD (set marks b mark) b 0 ≡ mark
+        here = getD-set-same marks b mark 0 (omega (arith, m .conflicts .long))
+
+        marked : (k : ℕ) → a < k → k < b + 1
+            → getD (set marks b mark) k 0 ≡ bit (inConflict (operation t a) (operation t k))
+        marked k i j = elim (equal? k b) [
+          | inl z ↦ rw (z, here) e
+          | inr d ↦ rw (getD-set-other marks b k mark 0 d) (m .conflicts .marked k i (omega (arith, d)))
+        ]
+
+        most : (k : ℕ) → a < k → k < b + 1 → getD (set marks b mark) k 0 ≤ count + wide
+        most k i j = elim (equal? k b) [
+          | inl z ↦ rw (z, here) (omega (arith, f))
+          | inr d ↦ rw (getD-set-other marks b k mark 0 d) (omega (arith, m .most .most k i (omega (arith, d))))
+        ]
+
+    pub mark-end : {n : ℕ} → n ≤ b → ConflictsBelow t a n marks × MarksAtMost a n marks count
+    mark-end l = (
+      record { long = m .conflicts .long; marked = λ k i j. m .conflicts .marked k i (omega arith) },
+      record { most = λ k i j. m .most .most k i (omega arith) },
+    )
+
+-- ---- listing those that race with a
+
+-- those below b are listed
+pub record Listed (t : Trace) (a b : ℕ) (row : List ℕ) (count : ℕ) : Type 0 where
+  pub long : length row ≡ 1024
+  pub few : count + a < b
+  pub below : b ≤ size t
+  pub listed : take count row ≡ passing (isRace t a) b
+
+module _ {t : Trace} {a : ℕ} {row : List ℕ} where
+  pub list-start : length row ≡ 1024 → a < size t → Listed t a (a + 1) row 0
+  list-start e l =
+      record {
+        long = e;
+        few = omega arith;
+        below = omega arith;
+        listed = sym (passing-none (isRace t a) (a + 1) (λ k i. no-race-ahead t a k (omega arith)));
+      }
+
+  module _ {b count : ℕ} (r : Listed t a b row count) where
+    pub list-more : {flag : ℕ} → size t ≤ 1024 → b < size t → flag ≡ bit (isRace t a b)
+        → Listed t a (b + 1) (set row count b) (count + flag)
+    list-more {flag} s l e =
+        record {
+          long = simp length-set (r .long);
+          few = omega (arith, r .few, e, bit-few (isRace t a b));
+          below = omega arith;
+          listed = rw (e, add-one) (go (isRace t a b) refl);
+        }
+      where
+        go : (v : Bool) → isRace t a b ≡ v → take (count + bit v) (set row count b) ≡ passing (isRace t a) (suc b)
+        go true f =
+            rw (add-one, passing-more (isRace t a) b f, ← r .listed)
+            (take-suc-set row count b (omega (arith, r .few, r .below, r .long)))
+        go false f =
+            rw (add-zero, passing-same (isRace t a) b f, ← r .listed) (take-set-le count row count b (omega arith))
+
+    pub list-end : size t ≤ 1024 → size t ≤ b → RowListed t a count row
+    list-end s l =
+        let e : b ≡ size t = omega (arith, r .below) in
+        record { long = r .long; few = omega (arith, r .few, r .below); listed = rw e at (r .listed) }
+
+-- ---- where there are none
+
+module _ {t : Trace} {a : ℕ} {row : List ℕ} (e : length row ≡ 1024) where
+  row-empty : ((b : ℕ) → a < b → b < size t → isRace t a b ≡ false) → RowListed t a 0 row
+  row-empty h = record { long = e; few = omega arith; listed = sym (row-none t a h) }
+
+  -- a is no Read or Write
+  pub row-no-access : {first last writes : ℕ} → Cells (operation t a) first last writes → last < first
+      → RowListed t a 0 row
+  row-no-access c l = row-empty (λ b i j. race-access t a b (cells-apart c l))
+
+  -- no other is in conflict with it
+  pub row-no-conflict : {marks : List ℕ} {count : ℕ} → ConflictsBelow t a (size t) marks
+      → MarksAtMost a (size t) marks count → count < 1 → RowListed t a 0 row
+  row-no-conflict c m l = row-empty (λ b i j. race-no-conflict t a b
+    (bit-none (inConflict (operation t a) (operation t b)) (omega (arith, c .marked b i j, m .most b i j))))
