@@ -6,12 +6,13 @@ use mathlib.Core.Path.{_≡_, refl, sym, ap, _∙_}
 use native.Mathlib.Omega.{arith}
 use Prim.Native.Nat.{ℕ, zero, suc, _+_, _<_, _≤_}
 use lib.ListN.{length, take, length-append, length-map}
-use Rattle.trace.specs.Trace.{Trace, size, operation, isAccess}
+use lib.Seq.{length-take-le}
+use Rattle.runs.proofs.Booleans.{equal?, less?}
+use Rattle.trace.specs.Trace.{Trace, size}
 use Rattle.race_search.specs.declared.Race.{Race}
-use Rattle.race_search.specs.RaceList.{inConflict, isRace, pair, racesOf, racesBelow}
-use Rattle.race_search.specs.Rows.{passing, raceRow}
-use Rattle.race_search.proofs.RaceTests.{no-race-ahead, race-no-conflict}
-use Rattle.runs.proofs.Booleans.{less?}
+use Rattle.race_search.specs.RaceList.{isRace, pair, racesOf, racesBelow, raceList, raceCount}
+use Rattle.race_search.specs.Rows.{passing, raceRow, RowListed}
+use Rattle.race_search.proofs.RaceTests.{no-race-ahead}
 
 -- ---- the numbers that pass a test
 
@@ -31,11 +32,16 @@ module _ (f : ℕ → Bool) where
 
 -- ---- a row of races
 
-module _ (t : Trace) where
-  map-append : (f : ℕ → Race) (l m : List ℕ) → map f (l ++ m) ≡ map f l ++ map f m
-  map-append f [] m = refl
-  map-append f (x ∷ l) m = ap (λ (r : List Race). f x ∷ r) (map-append f l m)
+pub map-append : {A B : Type 0} (f : A → B) (l m : List A) → map f (l ++ m) ≡ map f l ++ map f m
+map-append f [] m = refl
+map-append {B = B} f (x ∷ l) m = ap (λ (r : List B). f x ∷ r) (map-append f l m)
 
+-- as many as are listed
+pub row-count : {t : Trace} {a count : ℕ} {row : List ℕ} → RowListed t a count row → length (raceRow t a) ≡ count
+row-count {count = count} {row} r =
+    rw (← r .listed) (length-take-le count row (omega (arith, r .few, r .long)))
+
+module _ (t : Trace) where
   pub row-races : (before : List Race) (a b : ℕ) → racesOf t before a b ≡ before ++ map (pair a) (passing (isRace t a) b)
   unfolding racesOf passing
   row-races before a zero = sym (append-nil before)
@@ -57,6 +63,29 @@ module _ (t : Trace) where
 
   -- ---- the list, with a row more
 
+  pub below-start : racesBelow t 0 ≡ []
+  unfolding racesBelow
+  below-start = refl
+
   pub below-next : (a : ℕ) → racesBelow t (suc a) ≡ racesBelow t a ++ map (pair a) (raceRow t a)
   unfolding racesBelow
   below-next a = row-races (racesBelow t a) a (size t)
+
+  pub below-all : racesBelow t (size t) ≡ raceList t
+  unfolding raceList
+  below-all = refl
+
+  pub below-count : (a : ℕ) → length (racesBelow t (suc a)) ≡ length (racesBelow t a) + length (raceRow t a)
+  below-count a =
+      rw (below-next a, length-append) (ap (λ (k : ℕ). length (racesBelow t a) + k) (length-map (raceRow t a) (pair a)))
+
+  -- they are no more than all
+  pub below-few : (a : ℕ) → a ≤ size t → length (racesBelow t a) ≤ raceCount t
+  below-few a l = rw (← below-all) (grows (size t) l)
+    where
+      grows : (c : ℕ) → a ≤ c → length (racesBelow t a) ≤ length (racesBelow t c)
+      grows zero l = let e : a ≡ 0 = omega arith in rw e (omega arith)
+      grows (suc c) l = elim (equal? a (suc c)) [
+        | inl e ↦ rw e (omega arith)
+        | inr d ↦ omega (arith, below-count c, grows c (omega (arith, d)))
+      ]

@@ -25,7 +25,7 @@ use Rattle.order_table.proofs.Questions.{table-comes-out}
 use Rattle.race_search.specs.Premises.{HoldsTable}
 use Rattle.race_search.specs.RaceList.{raceList, raceCount}
 use Rattle.race_search.specs.declared.Race.{Race}
-use Rattle.races.specs.Premises.{Writable, BothWritten}
+use Rattle.races.specs.Premises.{Writable, AllWritable, BothWritten}
 use Rattle.races.specs.Races.{lowerAfter, higherAfter, CountCall, RacesCall}
 use Rattle.races.specs.Races.{racesReading, answerOf, racesAnswer, listedBy, racesListed, toWrite, shorter}
 use Rattle.races.specs.Refusals.{AcceptedRaces, RefusedRaces}
@@ -100,9 +100,10 @@ module _ (bytes lent : List ℕ) {now : List ℕ} (room : ℕ) (e : now ≡ tabl
 
 -- ---- the races that an answer lists
 
--- what is left to be written: it fits, it can be written, and it is the races that the call lists
+-- what is left to be written: it fits, it can be written, it is all races or none, and it is those that the call lists
 pub record LeftToWrite (bytes table : List ℕ) (numbers room count : ℕ) : Type 0 where
   pub writable : Writable bytes table count
+  pub all : 1 ≤ count → count ≡ raceCount (traceOf bytes)
   pub fits : count ≤ room
   pub listed : racesListed bytes numbers room ≡ take count (raceList (traceOf bytes))
 
@@ -119,6 +120,7 @@ module _ {bytes lent now : List ℕ} {room : ℕ} {answer : RacesAnswer} (c : Co
           rw (c .answers, answer-by bytes (length lent) room e)
           (record {
             writable = record { holds = λ l. absurd (omega (arith, l)); enough = omega arith };
+            all = λ l. absurd (omega (arith, l));
             fits = omega arith;
             listed = listed-by bytes (length lent) room e;
           })
@@ -131,6 +133,7 @@ module _ {bytes lent now : List ℕ} {room : ℕ} {answer : RacesAnswer} (c : Co
               holds = λ l. holds-after bytes lent (c .leaves-table) (passed .filled);
               enough = rw same (omega arith);
             };
+            all = λ l. rw same;
             fits = passed .list-holds;
             listed = listed-by bytes (length lent) room e ∙ rw same (sym (take-length (raceList t)));
           })
@@ -152,11 +155,11 @@ take-map {B = B} f (suc n) (x ∷ l) = ap (λ (r : List B). f x ∷ r) (take-map
 module _ (lower higher : List ℕ) {bytes lent now : List ℕ} {room : ℕ} {answer : RacesAnswer}
     (i : room ≡ shorter (length lower) (length higher)) (c : CountCall bytes lent room answer now) where
   pub pairs-writable : {count : ℕ} → count ≡ toWrite answer
-      → Writable bytes now count × (count ≤ length lower) × (count ≤ length higher)
+      → AllWritable bytes now count × (count ≤ length lower) × (count ≤ length higher)
   pairs-writable e =
       let short = shorter-fits (length lower) (length higher) in
       rw e (
-        left-to-write c .writable,
+        record { holds = left-to-write c .writable .holds; all = left-to-write c .all },
         omega (arith, left-to-write c .fits, i, short .0),
         omega (arith, left-to-write c .fits, i, short .1),
       )

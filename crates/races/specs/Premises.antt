@@ -17,6 +17,16 @@ pub record Writable (bytes table : List ℕ) (count : ℕ) : Type 0 where
   pub holds : 1 ≤ count → HoldsTable bytes table
   pub enough : count ≤ raceCount (traceOf bytes)
 
+-- all races can be written, or none: unless `count` is 0, there is a table, and `count` is the number of races
+pub record AllWritable (bytes table : List ℕ) (count : ℕ) : Type 0 where
+  pub holds : 1 ≤ count → HoldsTable bytes table
+  pub all : 1 ≤ count → count ≡ raceCount (traceOf bytes)
+
+-- all races are written to the two lists
+pub record AllWritten (t : Trace) (lower lower-now higher higher-now : List ℕ) : Type 0 where
+  pub all-lower : lower-now ≡ writtenOver (lowers (raceList t)) lower
+  pub all-higher : higher-now ≡ writtenOver (highers (raceList t)) higher
+
 -- the first `count` races are written to the two lists
 pub record BothWritten (t : Trace) (count : ℕ) (lower lower-now higher higher-now : List ℕ) : Type 0 where
   pub lower-written : lower-now ≡ writtenOver (take count (lowers (raceList t))) lower

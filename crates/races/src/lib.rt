@@ -1,15 +1,15 @@
 // The races of a file's trace, written to two lent lists: their lower operations, and their higher ones.
 ghost use mathlib.Core.Path.{_≡_};
-ghost use Prim.Native.Nat.{_≤_};
-ghost use lib.ListN.{length};
+ghost use Prim.Native.Nat.{_+_, _≤_};
+ghost use lib.ListN.{length, replicate};
+ghost use lib.Seq.{paste};
 ghost use Rattle.trace.specs.Premises.{HoldsTrace};
 ghost use Rattle.trace.specs.Reading.{traceOf};
 ghost use Rattle.race_search.specs.Premises.{HoldsTable};
 ghost use Rattle.race_search.specs.RaceList.{raceCount};
-ghost use Rattle.races.specs.Premises.{Writable, BothWritten};
+ghost use Rattle.races.specs.Premises.{AllWritable, AllWritten, BothWritten};
 ghost use Rattle.races.specs.Races.{shorter, racesAnswer, toWrite, CountCall, RacesCall};
 use order_table::TableAnswer;
-use race_search::Race;
 
 // The worker count, the operation count and the number of races, all of which are listed; or the refusal.
 pub enum RacesAnswer {
@@ -29,18 +29,34 @@ fn count_races(file: &[u8], table: &[u16]) -> u32
     requires { ⌜ HoldsTable (now file) (now table) ⌝ }
     ensures { λ r. ⌜ r ≡ raceCount (traceOf (now (file .entry))) ⌝ }
 {
-    let n = trace::operation_count(file);
-    let start = Race {
-        lower: 0,
-        higher: 0,
-    };
-    let mut race = race_search::next_race(file, table, start);
-    let mut count: u32 = 0;
-    while (race.lower as u32) < n {
-        race = race_search::next_race(file, table, race);
-        count += 1;
+    let n = trace::operation_count(file) as usize;
+    let mut first = [0u32; 1024];
+    let mut last = [0u32; 1024];
+    let mut writes = [0u8; 1024];
+    race_search::read_cells(file, &mut first, &mut last, &mut writes);
+    let mut workers = [0u8; 1024];
+    let mut own = [0u16; 1024];
+    race_search::read_places(file, table, &mut workers, &mut own);
+    let mut marks = [0u8; 1024];
+    let mut row = [0u16; 1024];
+    let mut count: usize = 0;
+    let mut a: usize = 0;
+    while a < n {
+        count += race_search::list_row(
+            file,
+            table,
+            &first,
+            &last,
+            &writes,
+            &workers,
+            &own,
+            a,
+            &mut marks,
+            &mut row,
+        );
+        a += 1;
     }
-    count
+    count as u32
 }
 
 // Question 16 of a file whose table is filled, where the list holds `room` records.
@@ -101,25 +117,82 @@ pub fn to_write(answer: RacesAnswer) -> usize
     }
 }
 
-// Writes the first `count` races: their lower operations, and their higher ones.
+// Writes a number `count` times, from a place of a list on.
+fn fill(list: &mut [u16], at: usize, count: usize, x: u16)
+    requires { ⌜ at + count ≤ length (now list) ⌝ }
+    ensures { λ r. ⌜ now (list .exit) ≡ paste (now (list .entry)) at (replicate count x) count ⌝ }
+{
+    let mut i: usize = 0;
+    while i < count {
+        list[at + i] = x;
+        i += 1;
+    }
+}
+
+// Writes the first `count` numbers of a row, from a place of a list on.
+fn copy(list: &mut [u16], at: usize, count: usize, row: &[u16; 1024])
+    requires { ⌜ (at + count ≤ length (now list)) × (count ≤ 1024) × (length (now row) ≡ 1024) ⌝ }
+    ensures { λ r. ⌜ now (list .exit) ≡ paste (now (list .entry)) at (now (row .entry)) count ⌝ }
+{
+    let mut i: usize = 0;
+    while i < count {
+        list[at + i] = row[i];
+        i += 1;
+    }
+}
+
+// Writes all races: their lower operations, and their higher ones.
+fn write_rows(file: &[u8], table: &[u16], lower: &mut [u16], higher: &mut [u16])
+    requires { ⌜ HoldsTable (now file) (now table)
+        × (raceCount (traceOf (now file)) ≤ length (now lower))
+        × (raceCount (traceOf (now file)) ≤ length (now higher)) ⌝ }
+    ensures { λ r. ⌜ AllWritten (traceOf (now (file .entry))) (now (lower .entry)) (now (lower .exit))
+        (now (higher .entry)) (now (higher .exit)) ⌝ }
+{
+    let n = trace::operation_count(file) as usize;
+    let mut first = [0u32; 1024];
+    let mut last = [0u32; 1024];
+    let mut writes = [0u8; 1024];
+    race_search::read_cells(file, &mut first, &mut last, &mut writes);
+    let mut workers = [0u8; 1024];
+    let mut own = [0u16; 1024];
+    race_search::read_places(file, table, &mut workers, &mut own);
+    let mut marks = [0u8; 1024];
+    let mut row = [0u16; 1024];
+    let mut at: usize = 0;
+    let mut a: usize = 0;
+    while a < n {
+        let count = race_search::list_row(
+            file,
+            table,
+            &first,
+            &last,
+            &writes,
+            &workers,
+            &own,
+            a,
+            &mut marks,
+            &mut row,
+        );
+        fill(lower, at, count, a as u16);
+        copy(higher, at, count, &row);
+        at += count;
+        a += 1;
+    }
+}
+
+// Writes all races, of which there are `count`: their lower operations, and their higher ones. Nothing where it is 0.
 fn write_pairs(file: &[u8], table: &[u16], count: usize, lower: &mut [u16], higher: &mut [u16])
-    requires { ⌜ Writable (now file) (now table) count
+    requires { ⌜ AllWritable (now file) (now table) count
         × (count ≤ length (now lower))
         × (count ≤ length (now higher)) ⌝ }
     ensures { λ r. ⌜ BothWritten (traceOf (now (file .entry))) count (now (lower .entry)) (now (lower .exit))
         (now (higher .entry)) (now (higher .exit)) ⌝ }
 {
-    let mut race = Race {
-        lower: 0,
-        higher: 0,
-    };
-    let mut at: usize = 0;
-    while at < count {
-        race = race_search::next_race(file, table, race);
-        lower[at] = race.lower;
-        higher[at] = race.higher;
-        at += 1;
+    if count < 1 {
+        return;
     }
+    write_rows(file, table, lower, higher);
 }
 
 // The shorter of two lengths.
