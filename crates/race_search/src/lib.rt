@@ -140,6 +140,13 @@ fn wide(x: u8) -> usize
     x as usize
 }
 
+// The same as a 16-bit number.
+fn wide16(x: u8) -> u16
+    ensures { λ r. ⌜ (r ≡ x) × (r < 256) ⌝ }
+{
+    x as u16
+}
+
 // The first cell of a Read or Write; 2^32 - 1 for another operation.
 fn first_cell(o: Operation) -> u32
     ensures { λ r. ⌜ r ≡ firstCell o ⌝ }
@@ -202,7 +209,7 @@ fn conflict_bit(first: u32, last: u32, writes: u8, other_first: u32, other_last:
     (writes | other_writes) & ((first <= other_last) as u8) & ((other_first <= last) as u8)
 }
 
-// Marks the operations after a that are in conflict with it; the answer is 0 only if there are none.
+// Marks the operations after a that are in conflict with it, and answers how many there are.
 fn mark_conflicts(
     file: &[u8],
     first: &[u32; 1024],
@@ -210,7 +217,7 @@ fn mark_conflicts(
     writes: &[u8; 1024],
     a: usize,
     marks: &mut [u8; 1024],
-) -> usize
+) -> u16
     requires { ⌜ RowOfCells (now file) (now first) (now last) (now writes) a × (length (now marks) ≡ 1024) ⌝ }
     ensures { λ r. ⌜ ConflictsBelow (traceOf (now (file .entry))) a (size (traceOf (now (file .entry))))
         (now (marks .exit))
@@ -220,12 +227,12 @@ fn mark_conflicts(
     let x = first[a];
     let y = last[a];
     let w = writes[a];
-    let mut count: usize = 0;
+    let mut count: u16 = 0;
     let mut b = a + 1;
     while b < n {
         let mark = conflict_bit(x, y, w, first[b], last[b], writes[b]);
         marks[b] = mark;
-        count += wide(mark);
+        count += wide16(mark);
         b += 1;
     }
     count

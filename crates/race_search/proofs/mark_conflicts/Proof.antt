@@ -10,7 +10,7 @@ use Rattle.race_search.proofs.mark_conflicts.Tie as tie
 use Rattle.race_search.proofs.mark_conflicts.Reads as reads
 use Rattle.race_search.proofs.mark_conflicts.Lts as lts
 use Rattle.race_search.proofs.conflict_bit.Reads as conflict-bit-reads
-use Rattle.race_search.proofs.wide.Reads as wide-reads
+use Rattle.race_search.proofs.wide16.Reads as wide16-reads
 use Rattle.trace.proofs.operation_count.Reads as operation-count-reads
 
 abbrev Inv-loop : tie.InvT-loop
@@ -84,12 +84,12 @@ element-write-marks : tie.Need-element-write-marks Inv-loop μ-loop
 element-write-marks c = omega (arith, file-few _ (c .before .before .before .before .before .before .before .before .before .before .before .pre .0 .trace), c .before .before .before .before .before .before .before .before .before .operation-count .ensures, c .before .before .before .before .loop-test .taken)
 
 -- src/lib.rt:227:18
-wide-requires : tie.Need-wide-requires Inv-loop μ-loop
-wide-requires c κs = search needs
+wide16-requires : tie.Need-wide16-requires Inv-loop μ-loop
+wide16-requires c κs = search needs
 
 -- src/lib.rt:227:9
 add-count : tie.Need-add-count Inv-loop μ-loop
-add-count c = omega (arith, c .before .before .before .before .before .before .loop .inv .few, c .wide .ensures .1, file-few _ (c .before .before .before .before .before .before .before .before .before .before .before .before .pre .0 .trace), c .before .before .before .before .before .before .before .before .before .before .operation-count .ensures, c .before .before .before .before .before .loop-test .taken)
+add-count c = omega (arith, c .before .before .before .before .before .before .loop .inv .few, c .wide16 .ensures .1, file-few _ (c .before .before .before .before .before .before .before .before .before .before .before .before .pre .0 .trace), c .before .before .before .before .before .before .before .before .before .before .operation-count .ensures, c .before .before .before .before .before .loop-test .taken)
 
 -- src/lib.rt:228:9
 add-b-2 : tie.Need-add-b-2 Inv-loop μ-loop
@@ -105,7 +105,7 @@ loop-again c = let c12 = c .before .before .before .before .before .before .befo
     let cells = c12 .pre .0 .cells .each in
     let below = c .before .before .before .before .before .loop-test .taken in
     let size = c .before .before .before .before .before .before .before .before .before .before .operation-count .ensures in
-    mark-more (c .before .before .before .before .before .before .loop .inv) (omega (arith, file-few _ (c12 .pre .0 .trace), size, below)) (c .before .conflict-bit .ensures ∙ cells-conflict (cells _ (c12 .pre .0 .inside)) (cells _ (omega (arith, size, below)))) (c .wide .ensures .0)
+    mark-more (c .before .before .before .before .before .before .loop .inv) (omega (arith, file-few _ (c12 .pre .0 .trace), size, below)) (c .before .conflict-bit .ensures ∙ cells-conflict (cells _ (c12 .pre .0 .inside)) (cells _ (omega (arith, size, below)))) (c .wide16 .ensures .0)
 
 -- src/lib.rt:205:1
 returns : tie.Need-returns Inv-loop μ-loop
@@ -133,7 +133,7 @@ mark-conflicts-spec =
     element-copy-out-conflict-bit-3
     conflict-bit-requires
     element-write-marks
-    wide-requires
+    wide16-requires
     add-count
     add-b-2
     loop-less
