@@ -9,3 +9,4 @@ pub mod TableEntries
 pub mod RowTests
 pub mod RowSteps
 pub mod RowLists
+pub mod PairCounts

@@ -30,6 +30,14 @@ module _ (f : ℕ → Bool) where
   passing-none zero h = refl
   passing-none (suc b) h = passing-same b (h b (omega arith)) ∙ passing-none b (λ k l. h k (omega arith))
 
+  -- none from b on and below c
+  pub passing-end : (b c : ℕ) → b ≤ c → ((k : ℕ) → b ≤ k → f k ≡ false) → passing f c ≡ passing f b
+  passing-end b zero l h = ap (λ (k : ℕ). passing f k) (omega arith)
+  passing-end b (suc c) l h = elim (equal? b (suc c)) [
+    | inl e ↦ ap (λ (k : ℕ). passing f k) (sym e)
+    | inr d ↦ passing-same c (h c (omega (arith, d))) ∙ passing-end b c (omega (arith, d)) h
+  ]
+
 -- ---- a row of races
 
 pub map-append : {A B : Type 0} (f : A → B) (l m : List A) → map f (l ++ m) ≡ map f l ++ map f m

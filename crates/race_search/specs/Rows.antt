@@ -3,12 +3,12 @@
 -- Differs: nowhere. Means: no call's contract speaks of these. An operation that is no Read or Write has a first cell
 -- above its last one in the arrays, so that it meets none; proofs/RowTests shows that the test by the arrays is the test
 -- of specs/RaceList.
-use mathlib.Core.Bool.{Bool, cond}
+use mathlib.Core.Bool.{Bool, cond, not}
 use mathlib.Core.List.{List, [], _∷_, _++_}
 use mathlib.Core.Path.{_≡_}
 use Prim.Native.Nat.{ℕ, zero, suc, _+_, _*_, _-_, _<_, _≤_}
 use lib.Bits.{bitAnd, bitOr}
-use lib.Dec.{T, leb, ltb}
+use lib.Dec.{T, leb, ltb, eqb}
 use lib.ListN.{length, getD, take}
 use mir.Val.{boolByte}
 use Rattle.trace.specs.declared.Operation.{Operation}
@@ -115,3 +115,18 @@ pub record RowListed (t : Trace) (a count : ℕ) (row : List ℕ) : Type 0 where
   pub long : length row ≡ 1024
   pub few : count ≤ 1024
   pub listed : take count row ≡ raceRow t a
+
+-- ---- pairs of operations of two workers
+
+-- is a an operation of worker q?
+abbrev pub isOf : Trace → ℕ → ℕ → Bool
+isOf t q a = eqb (workerOf t a) q
+
+-- how many there are below k: for each higher operation, the lower ones that are not of its worker
+unfoldable pub pairsBelow : Trace → ℕ → ℕ
+pairsBelow t zero = 0
+pairsBelow t (suc k) = pairsBelow t k + length (passing (λ a. not (isOf t (workerOf t k) a)) k)
+
+-- how many there are
+abbrev pub pairCount : Trace → ℕ
+pairCount t = pairsBelow t (size t)

@@ -5,7 +5,7 @@ ghost use mathlib.Core.Path.{_≡_};
 ghost use Prim.Native.Nat.{_<_};
 ghost use lib.ListN.{length};
 ghost use Rattle.trace.specs.Premises.{HoldsTrace};
-ghost use Rattle.trace.specs.Reading.{traceOf};
+ghost use Rattle.trace.specs.Reading.{reads, fileReading, traceOf};
 ghost use Rattle.trace.specs.Trace.{size, operation, isWrite};
 ghost use Rattle.model.specs.Computed.{mustPrecedeIn};
 ghost use Rattle.race_search.specs.Intervals.{overlap};
@@ -13,7 +13,7 @@ ghost use Rattle.race_search.specs.Premises.{HoldsTable, Inside, PairInT
 ghost use Rattle.race_search.specs.RaceList.{inConflict, isRace, nextRace};
 ghost use Rattle.race_search.specs.Rows.{firstCell, lastCell, CellsFit, ReadsCells, CellsBelow, ReadsPlaces};
 ghost use Rattle.race_search.specs.Rows.{PlacesBelow, conflictBit, RowOfCells, ConflictsBelow, MarksAtMost};
-ghost use Rattle.race_search.specs.Rows.{unorderedBit, RowOfTable, RowListed};
+ghost use Rattle.race_search.specs.Rows.{unorderedBit, RowOfTable, RowListed, pairCount};
 use trace::Operation;
 
 // A race record: the lower and the higher operation.
@@ -304,4 +304,23 @@ pub fn list_row(
         return 0;
     }
     list_unordered(file, table, workers, own, a, marks, row)
+}
+
+// How many pairs of operations of two workers there are. There are no more races.
+pub fn pair_count(file: &[u8]) -> usize
+    requires { ⌜ fileReading (now file) ≡ reads (traceOf (now file)) ⌝ }
+    ensures { λ r. ⌜ r ≡ pairCount (traceOf (now (file .entry))) ⌝ }
+{
+    let n = trace::operation_count(file) as usize;
+    let mut seen = [0usize; 256];
+    let mut count: usize = 0;
+    let mut k: usize = 0;
+    while k < n {
+        let q = wide(trace::worker_of(file, k));
+        let same = seen[q];
+        count += k - same;
+        seen[q] = same + 1;
+        k += 1;
+    }
+    count
 }
