@@ -18,7 +18,7 @@ use Rattle.race_search.specs.Rows.{CellsBelow, PlacesBelow, RowOfCells, RowOfTa
 use Rattle.race_search.proofs.Chain.{race-operations}
 use Rattle.race_search.proofs.RowLists.{map-append, below-start, below-next, below-count, below-few, below-all, row-count}
 use Rattle.race_search.proofs.TableEntries.{table-reads}
-use Rattle.races.specs.Premises.{Writable, AllWritten, BothWritten}
+use Rattle.races.specs.Premises.{Writable, AllWritten}
 use Rattle.races.specs.Races.{lowers, highers}
 
 -- ---- where the next race can be looked for
@@ -197,28 +197,12 @@ module _ {t : Trace} {a at : ℕ} {lower lower-now higher higher-now marks row :
 
   -- ---- the end
 
-  pub rows-all : size t ≤ a → AllWritten t lower lower-now higher higher-now
+  pub rows-all : size t ≤ a → AllWritten t at lower lower-now higher higher-now
   rows-all l =
       let last : a ≡ size t = omega (arith, w .below) in
       let e : racesBelow t a ≡ raceList t = rw last (below-all t) in
-      record { all-lower = rw e at (w .low .whole); all-higher = rw e at (w .high .whole) }
-
--- nothing is written, or everything
-pub both-none : {t : Trace} {count : ℕ} (lower higher : List ℕ) → count < 1
-    → BothWritten t count lower lower higher higher
-both-none {count = count} lower higher l =
-    let e : count ≡ 0 = omega arith in
-    rw e (record { lower-written = refl; higher-written = refl })
-
-pub both-all : {t : Trace} {count : ℕ} {lower lower-now higher higher-now : List ℕ} → count ≡ raceCount t
-    → AllWritten t lower lower-now higher higher-now → BothWritten t count lower lower-now higher higher-now
-both-all {t} e w =
-    record {
-      lower-written = rw (e, whole (λ r. r .lower)) (w .all-lower);
-      higher-written = rw (e, whole (λ r. r .higher)) (w .all-higher);
-    }
-  where
-    whole : (number : Race → ℕ) → take (raceCount t) (map number (raceList t)) ≡ map number (raceList t)
-    whole number =
-        let same = length-map (raceList t) number in
-        take-all (raceCount t) (map number (raceList t)) (omega (arith, same))
+      record {
+        counts = rows-at ∙ ap length e;
+        all-lower = rw e at (w .low .whole);
+        all-higher = rw e at (w .high .whole);
+      }

@@ -7,7 +7,7 @@ ghost use Rattle.trace.specs.Premises.{HoldsTrace};
 ghost use Rattle.trace.specs.Reading.{traceOf};
 ghost use Rattle.race_search.specs.Premises.{HoldsTable};
 ghost use Rattle.race_search.specs.RaceList.{raceCount};
-ghost use Rattle.races.specs.Premises.{AllWritable, AllWritten, BothWritten};
+ghost use Rattle.races.specs.Premises.{AllWritten, tooMany, ListsCall};
 ghost use Rattle.races.specs.Races.{shorter, racesAnswer, toWrite, CountCall, RacesCall};
 use order_table::TableAnswer;
 
@@ -141,12 +141,12 @@ fn copy(list: &mut [u16], at: usize, count: usize, row: &[u16; 1024])
     }
 }
 
-// Writes all races: their lower operations, and their higher ones.
-fn write_rows(file: &[u8], table: &[u16], lower: &mut [u16], higher: &mut [u16])
+// Writes all races, their lower operations and their higher ones, and answers how many there are.
+fn write_rows(file: &[u8], table: &[u16], lower: &mut [u16], higher: &mut [u16]) -> u32
     requires { ⌜ HoldsTable (now file) (now table)
         × (raceCount (traceOf (now file)) ≤ length (now lower))
         × (raceCount (traceOf (now file)) ≤ length (now higher)) ⌝ }
-    ensures { λ r. ⌜ AllWritten (traceOf (now (file .entry))) (now (lower .entry)) (now (lower .exit))
+    ensures { λ r. ⌜ AllWritten (traceOf (now (file .entry))) r (now (lower .entry)) (now (lower .exit))
         (now (higher .entry)) (now (higher .exit)) ⌝ }
 {
     let n = trace::operation_count(file) as usize;
@@ -179,20 +179,7 @@ fn write_rows(file: &[u8], table: &[u16], lower: &mut [u16], higher: &mut [u16])
         at += count;
         a += 1;
     }
-}
-
-// Writes all races, of which there are `count`: their lower operations, and their higher ones. Nothing where it is 0.
-fn write_pairs(file: &[u8], table: &[u16], count: usize, lower: &mut [u16], higher: &mut [u16])
-    requires { ⌜ AllWritable (now file) (now table) count
-        × (count ≤ length (now lower))
-        × (count ≤ length (now higher)) ⌝ }
-    ensures { λ r. ⌜ BothWritten (traceOf (now (file .entry))) count (now (lower .entry)) (now (lower .exit))
-        (now (higher .entry)) (now (higher .exit)) ⌝ }
-{
-    if count < 1 {
-        return;
-    }
-    write_rows(file, table, lower, higher);
+    at as u32
 }
 
 // The shorter of two lengths.
@@ -205,15 +192,64 @@ fn shorter_of(x: usize, y: usize) -> usize
     y
 }
 
+// The number of races where they are more than `room`; 0 otherwise. They are counted only if they can be more.
+fn too_many(file: &[u8], table: &[u16], room: usize) -> u32
+    requires { ⌜ HoldsTable (now file) (now table) ⌝ }
+    ensures { λ r. ⌜ r ≡ tooMany (raceCount (traceOf (now (file .entry)))) room ⌝ }
+{
+    if race_search::pair_count(file) <= room {
+        return 0;
+    }
+    let count = count_races(file, table);
+    if count as usize <= room {
+        return 0;
+    }
+    count
+}
+
+// Question 16 of a file whose table is filled; where it does not refuse, the races.
+fn list_if_room(
+    file: &[u8],
+    workers: u8,
+    operations: u32,
+    table: &[u16],
+    lower: &mut [u16],
+    higher: &mut [u16],
+) -> RacesAnswer
+    requires { ⌜ HoldsTable (now file) (now table) × HoldsTrace (now file) workers operations ⌝ }
+    ensures { λ r. ⌜ ListsCall (now (file .entry)) (length (now (table .entry))) (now (lower .entry))
+        (now (higher .entry)) r (now (lower .exit)) (now (higher .exit)) ⌝ }
+{
+    let room = shorter_of(lower.len(), higher.len());
+    let refused = too_many(file, table, room);
+    if 0 < refused {
+        return RacesAnswer::Refused {
+            number: 16,
+            place: refused,
+        };
+    }
+    let count = write_rows(file, table, lower, higher);
+    RacesAnswer::Listed {
+        workers: workers,
+        operations: operations,
+        races: count,
+    }
+}
+
 // Questions 1 to 11 and 16 of any bytes, any table and any two lists; where none refuses, the races, and the order
 // table; where 16 does, the order table.
 pub fn races(file: &[u8], table: &mut [u16], lower: &mut [u16], higher: &mut [u16]) -> RacesAnswer
     ensures { λ r. ⌜ RacesCall (now (file .entry)) (now (table .entry)) (now (lower .entry)) (now (higher .entry)) r
         (now (table .exit)) (now (lower .exit)) (now (higher .exit)) ⌝ }
 {
-    let room = shorter_of(lower.len(), higher.len());
-    let answer = fill_and_count(file, table, room);
-    let count = to_write(answer);
-    write_pairs(file, table, count, lower, higher);
-    answer
+    match order_table::order_table(file, table) {
+        TableAnswer::Filled {
+            workers,
+            operations,
+        } => list_if_room(file, workers, operations, table, lower, higher),
+        TableAnswer::Refused { number, place } => RacesAnswer::Refused {
+            number: number,
+            place: place,
+        },
+    }
 }

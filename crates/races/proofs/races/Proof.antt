@@ -1,59 +1,66 @@
--- `races` meets its contract. Assumes nothing.
+use Rattle.races.proofs.Answers.{table-after-holds, call-filled, call-refused}
+use mathlib.Core.Path.{sym, _∙_}
 use borrow.Author.Needs.{needs}
-use Rattle.races.proofs.Answers.{counts-length, pairs-writable, call-races}
 use Rattle.races.proofs.races.Statement.{statement}
 use Rattle.races.proofs.races.Tie as tie
+use Rattle.races.proofs.races.Reads as reads
+use Rattle.races.proofs.races.Lts as lts
+use Rattle.order_table.proofs.order_table.Reads as order-table-reads
+use Rattle.races.proofs.list_if_room.Reads as list-if-room-reads
 
-shorter-of-requires : tie.Need-shorter-of-requires
-shorter-of-requires c κs = search needs
+-- src/lib.rt:245:11
+order-table-requires : tie.Need-order-table-requires
+order-table-requires c κs = search needs
 
-fill-and-count-requires : tie.Need-fill-and-count-requires
-fill-and-count-requires c κs = search needs
+-- src/lib.rt:247:13
+enum-known-workers : tie.Need-enum-known-workers
+enum-known-workers c = search needs
 
-to-write-requires : tie.Need-to-write-requires
-to-write-requires c κs = search needs
+-- src/lib.rt:249:14
+list-if-room-requires : tie.Need-list-if-room-requires
+list-if-room-requires c κs = let call = c .before .before .before .before .before .before .before .before .order-table .ensures in
+    table-after-holds _ _ (call .leaves) (sym (call .answers) ∙ c .before .before .before .before .workers .given .1)
 
-write-pairs-requires : tie.Need-write-pairs-requires
-write-pairs-requires c κs =
-    let c3 = c .before .before .before in
-    let c6 = c3 .before .before .before in
-    let c8 = c6 .before .before in
-    let c13 = c8 .before .before .before .before .before in
-    let a = c13 .args in
-    pairs-writable (a .lower .now) (a .higher .now)
-    (c8 .shorter-of .ensures)
-    (c6 .fill-and-count .ensures)
-    (c3 .to-write .ensures)
+-- src/lib.rt:250:32
+enum-known-number : tie.Need-enum-known-number
+enum-known-number c = search needs
 
+-- src/lib.rt:241:1
 same-length : tie.Need-same-length
-same-length c =
-    let c6 = c .before .before .before .before .before .before in
-    counts-length (c6 .before .before .before .before .before .fill-and-count .ensures)
+same-length c = search needs
 
+-- src/lib.rt:241:1
 same-length-2 : tie.Need-same-length-2
 same-length-2 c = search needs
 
+-- src/lib.rt:241:1
 same-length-3 : tie.Need-same-length-3
 same-length-3 c = search needs
 
+-- src/lib.rt:241:1
 returns : tie.Need-returns
-returns c =
-    let c4 = c .before .before .before .before in
-    let c8 = c4 .before .before .before .before in
-    let c11 = c8 .before .before .before in
-    let c13 = c11 .before .before in
-    let counted = c11 .fill-and-count .ensures in
-    call-races _ _ (c13 .shorter-of .ensures) counted (c8 .to-write .ensures) (c4 .write-pairs .ensures)
+returns c = call-filled _ _ _ _ (c .before .before .before .before .before .before .before .before .before .before .before .before .before .order-table .ensures .leaves) (c .before .before .before .before .list-if-room .ensures)
+
+-- src/lib.rt:241:1
+same-length-4 : tie.Need-same-length-4
+same-length-4 c = search needs
+
+-- src/lib.rt:241:1
+returns-2 : tie.Need-returns-2
+returns-2 c = let call = c .before .before .before .before .before .order-table .ensures in
+    call-refused _ _ _ _ (call .leaves) (sym (call .answers) ∙ c .before .number .given .1)
 
 pub races-spec : {M : Type 1} → statement M
 races-spec =
     tie.close
     (tie.spec
-    shorter-of-requires
-    fill-and-count-requires
-    to-write-requires
-    write-pairs-requires
+    order-table-requires
+    enum-known-workers
+    list-if-room-requires
+    enum-known-number
     same-length
     same-length-2
     same-length-3
-    returns)
+    returns
+    same-length-4
+    returns-2)

@@ -95,6 +95,11 @@ loop-again c = let c18 = c .before .before .before .before .before .before .befo
     let (listed, marks) = c .before .before .before .before .before .before .before .before .before .list-row .ensures in
     rows-more (c18 .loop .inv) (omega (arith, e, c .before .before .before .before .before .before .before .before .before .before .before .before .before .before .before .before .before .loop-test .taken)) listed (c31 .pre .1) (c31 .pre .2) marks (c .before .before .before .before .before .before .before .fill .ensures) (c .before .before .copy .ensures)
 
+cast-result : tie.Need-cast-result Inv-loop μ-loop
+cast-result c =
+    let written = rows-all (c .before .loop .inv) (omega (arith, c .before .before .before .before .before .before .before .before .before .operation-count .ensures, c .loop-test .left)) in
+    omega (arith, written .counts, table-few (c .before .before .before .before .before .before .before .before .before .before .before .before .before .before .pre .0))
+
 -- src/lib.rt:145:1
 same-length : tie.Need-same-length Inv-loop μ-loop
 same-length c = c .before .loop .inv .low .size
@@ -126,6 +131,7 @@ write-rows-spec =
     add-a
     loop-less
     loop-again
+    cast-result
     same-length
     same-length-2
     returns)
