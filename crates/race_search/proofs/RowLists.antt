@@ -1,17 +1,17 @@
 -- The race list, row by row. In order: the numbers that pass a test; a row of races; the list, with a row more.
-use mathlib.Core.Bool.{Bool, true, false}
+use mathlib.Core.Bool.{Bool, true, false, cond, true≢false}
 use mathlib.Core.List.{List, [], _∷_, _++_, map, append-nil, append-assoc}
-use mathlib.Core.Logic.{inl, inr}
+use mathlib.Core.Logic.{_⊎_, inl, inr}
 use mathlib.Core.Path.{_≡_, refl, sym, ap, _∙_}
 use native.Mathlib.Omega.{arith}
 use Prim.Native.Nat.{ℕ, zero, suc, _+_, _<_, _≤_}
-use lib.ListN.{length, take, length-append, length-map}
-use lib.Seq.{length-take-le}
+use lib.ListN.{length, getD, take, length-append, length-map, List·getD-append}
+use lib.Seq.{length-take-le, getD-append-seam}
 use Rattle.runs.proofs.Booleans.{equal?, less?}
 use Rattle.trace.specs.Trace.{Trace, size}
 use Rattle.race_search.specs.declared.Race.{Race}
 use Rattle.race_search.specs.RaceList.{isRace, pair, racesOf, racesBelow, raceList, raceCount}
-use Rattle.race_search.specs.Rows.{passing, raceRow, RowListed}
+use Rattle.race_search.specs.Rows.{passing, raceRow, RowHolds}
 use Rattle.race_search.proofs.RaceTests.{no-race-ahead}
 
 -- ---- the numbers that pass a test
@@ -38,6 +38,58 @@ module _ (f : ℕ → Bool) where
     | inr d ↦ passing-same c (h c (omega (arith, d))) ∙ passing-end b c (omega (arith, d)) h
   ]
 
+  -- each of them is below n, and passes
+  pub passing-at : (n i : ℕ) → i < length (passing f n) → (getD (passing f n) i 0 < n) × (f (getD (passing f n) i 0) ≡ true)
+  unfolding passing
+  passing-at zero i l = absurd (omega (arith, l))
+  passing-at (suc b) i l = go (f b) refl (less? i (length (passing f b))) (passing-at b i)
+    where
+      go : (v : Bool) → f b ≡ v → (i < length (passing f b)) ⊎ (length (passing f b) ≤ i)
+          → (i < length (passing f b) → (getD (passing f b) i 0 < b) × (f (getD (passing f b) i 0) ≡ true))
+          → (getD (passing f (suc b)) i 0 < suc b) × (f (getD (passing f (suc b)) i 0) ≡ true)
+      go v e (inl j) h =
+          let (low, passes) = h j in
+          let same = List·getD-append (passing f b) (cond (f b) (b ∷ []) []) 0 i j in
+          rw same (omega arith, passes)
+      go true e (inr j) h =
+          let last : i ≡ length (passing f b) = omega (arith, simp length-append at (rw (passing-more b e) at l)) in
+          rw (passing-more b e, last, getD-append-seam (passing f b) b [] 0) (omega arith, e)
+      go false e (inr j) h = absurd (omega (arith, rw (passing-same b e) at l))
+
+  -- those of a list that pass
+  abbrev pub keptOf : List ℕ → List ℕ
+  keptOf [] = []
+  keptOf (x ∷ l) = cond (f x) (x ∷ keptOf l) (keptOf l)
+
+  kept-append : (l m : List ℕ) → keptOf (l ++ m) ≡ keptOf l ++ keptOf m
+  kept-append [] m = refl
+  kept-append (x ∷ l) m = go (f x) (kept-append l m)
+    where
+      go : (v : Bool) → keptOf (l ++ m) ≡ keptOf l ++ keptOf m
+          → cond v (x ∷ keptOf (l ++ m)) (keptOf (l ++ m)) ≡ cond v (x ∷ keptOf l) (keptOf l) ++ keptOf m
+      go true i = ap (λ (r : List ℕ). x ∷ r) i
+      go false i = i
+
+  pub kept-one : (l : List ℕ) (x : ℕ) → f x ≡ true → keptOf (l ++ x ∷ []) ≡ keptOf l ++ x ∷ []
+  kept-one l x e = rw (kept-append, e)
+
+  pub kept-same : (l : List ℕ) (x : ℕ) → f x ≡ false → keptOf (l ++ x ∷ []) ≡ keptOf l
+  kept-same l x e = rw (kept-append, e) (append-nil (keptOf l))
+
+-- of the numbers that pass one test, those that pass a second one, which asks more
+pub passing-kept : (f g : ℕ → Bool) → ((k : ℕ) → f k ≡ false → g k ≡ false) → (n : ℕ)
+    → keptOf g (passing f n) ≡ passing g n
+unfolding passing
+passing-kept f g h zero = refl
+passing-kept f g h (suc b) = go (f b) (g b) refl refl (passing-kept f g h b)
+  where
+    go : (v w : Bool) → f b ≡ v → g b ≡ w → keptOf g (passing f b) ≡ passing g b
+        → keptOf g (passing f (suc b)) ≡ passing g (suc b)
+    go true true e i p = rw (passing-more f b e, passing-more g b i, kept-one g (passing f b) b i, p)
+    go true false e i p = rw (passing-more f b e, passing-same g b i, kept-same g (passing f b) b i, p)
+    go false true e i p = absurd (true≢false (sym i ∙ h b e))
+    go false false e i p = rw (passing-same f b e, passing-same g b i, p)
+
 -- ---- a row of races
 
 pub map-append : {A B : Type 0} (f : A → B) (l m : List A) → map f (l ++ m) ≡ map f l ++ map f m
@@ -45,9 +97,9 @@ map-append f [] m = refl
 map-append {B = B} f (x ∷ l) m = ap (λ (r : List B). f x ∷ r) (map-append f l m)
 
 -- as many as are listed
-pub row-count : {t : Trace} {a count : ℕ} {row : List ℕ} → RowListed t a count row → length (raceRow t a) ≡ count
+pub row-count : {numbers : List ℕ} {count : ℕ} {row : List ℕ} → RowHolds numbers count row → length numbers ≡ count
 row-count {count = count} {row} r =
-    rw (← r .listed) (length-take-le count row (omega (arith, r .few, r .long)))
+    rw (← r .front) (length-take-le count row (omega (arith, r .few, r .long)))
 
 module _ (t : Trace) where
   pub row-races : (before : List Race) (a b : ℕ) → racesOf t before a b ≡ before ++ map (pair a) (passing (isRace t a) b)

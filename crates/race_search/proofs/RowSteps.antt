@@ -1,6 +1,7 @@
 -- The loops over the arrays. In order: reading the cells; reading the workers and their entries; marking the operations
--- in conflict with a; listing those that race with it; where there are none.
-use mathlib.Core.Bool.{Bool, true, false}
+-- in conflict with a; listing those that pass a test; keeping those that race with a; where
+-- there are none.
+use mathlib.Core.Bool.{Bool, true, false, _&&_, and-assoc}
 use mathlib.Core.List.{List, [], _∷_, _++_}
 use mathlib.Core.Logic.{inl, inr}
 use mathlib.Core.Path.{_≡_, refl, sym, ap, _∙_}
@@ -9,14 +10,19 @@ use native.Mathlib.Numerals.{add-one}
 use native.Mathlib.Omega.{arith}
 use Prim.Native.Nat.{ℕ, zero, suc, _+_, _*_, _<_, _≤_}
 use lib.ListN.{length, getD, set, take, length-set}
-use lib.Seq.{getD-set-same, getD-set-other, take-suc-set, take-set-le}
+use lib.Dec.{ltb}
+use lib.Seq.{getD-set-same, getD-set-other, getD-take, take-suc, take-suc-set, take-set-le}
+use borrow.Author.Tests.{ltb-true, lt-ltb, le-ltb}
 use Rattle.runs.proofs.Booleans.{equal?}
 use Rattle.trace.specs.Trace.{Trace, size, operation, workerOf}
+use Rattle.trace.proofs.Answered.{both}
+use Rattle.model.specs.Computed.{unorderedIn}
 use Rattle.race_search.specs.RaceList.{inConflict, isRace}
 use Rattle.race_search.specs.Rows.{bit, Cells, CellsBelow, PlacesBelow, ConflictsBelow, MarksAtMost}
-use Rattle.race_search.specs.Rows.{passing, RowListed}
+use Rattle.race_search.specs.Rows.{passing, raceRow, conflictAfter, conflictRow, RowHolds}
 use Rattle.race_search.proofs.RaceTests.{no-race-ahead, race-no-conflict, race-access}
-use Rattle.race_search.proofs.RowLists.{passing-more, passing-same, passing-none, row-none}
+use Rattle.race_search.proofs.RowLists.{passing-more, passing-same, passing-none, passing-at, passing-kept}
+use Rattle.race_search.proofs.RowLists.{keptOf, kept-one, kept-same, row-count, row-none}
 use Rattle.race_search.proofs.RowTests.{bit-few, bit-none, cells-apart}
 
 -- ---- reading the cells
@@ -166,61 +172,175 @@ module _ {t : Trace} {a : ℕ} {marks : List ℕ} where
       record { most = λ k i j. m .most .most k i (omega arith) },
     )
 
--- ---- listing those that race with a
+-- ---- listing those that pass a test
 
--- those below b are listed
-pub record Listed (t : Trace) (a b : ℕ) (row : List ℕ) (count : ℕ) : Type 0 where
+-- those above a and below b are listed
+pub record Listed (f : ℕ → Bool) (n a b : ℕ) (row : List ℕ) (count : ℕ) : Type 0 where
   pub long : length row ≡ 1024
   pub few : count + a < b
-  pub below : b ≤ size t
-  pub listed : take count row ≡ passing (isRace t a) b
+  pub below : b ≤ n
+  pub front : take count row ≡ passing f b
 
-module _ {t : Trace} {a : ℕ} {row : List ℕ} where
-  pub list-start : length row ≡ 1024 → a < size t → Listed t a (a + 1) row 0
-  list-start e l =
+module _ (f : ℕ → Bool) {n a : ℕ} {row : List ℕ} where
+  -- none up to a passes
+  pub list-start : length row ≡ 1024 → a < n → ((k : ℕ) → k ≤ a → f k ≡ false) → Listed f n a (a + 1) row 0
+  list-start e l h =
       record {
         long = e;
         few = omega arith;
         below = omega arith;
-        listed = sym (passing-none (isRace t a) (a + 1) (λ k i. no-race-ahead t a k (omega arith)));
+        front = sym (passing-none f (a + 1) (λ k i. h k (omega arith)));
       }
 
-  module _ {b count : ℕ} (r : Listed t a b row count) where
-    pub list-more : {flag : ℕ} → size t ≤ 1024 → b < size t → flag ≡ bit (isRace t a b)
-        → Listed t a (b + 1) (set row count b) (count + flag)
+  module _ {b count : ℕ} (r : Listed f n a b row count) where
+    pub list-more : {flag : ℕ} → n ≤ 1024 → b < n → flag ≡ bit (f b)
+        → Listed f n a (b + 1) (set row count b) (count + flag)
     list-more {flag} s l e =
         record {
           long = simp length-set (r .long);
-          few = omega (arith, r .few, e, bit-few (isRace t a b));
+          few = omega (arith, r .few, e, bit-few (f b));
           below = omega arith;
-          listed = rw (e, add-one) (go (isRace t a b) refl);
+          front = rw (e, add-one) (go (f b) refl);
         }
       where
-        go : (v : Bool) → isRace t a b ≡ v → take (count + bit v) (set row count b) ≡ passing (isRace t a) (suc b)
-        go true f =
-            rw (add-one, passing-more (isRace t a) b f, ← r .listed)
+        go : (v : Bool) → f b ≡ v → take (count + bit v) (set row count b) ≡ passing f (suc b)
+        go true i =
+            rw (add-one, passing-more f b i, ← r .front)
             (take-suc-set row count b (omega (arith, r .few, r .below, r .long)))
-        go false f =
-            rw (add-zero, passing-same (isRace t a) b f, ← r .listed) (take-set-le count row count b (omega arith))
+        go false i = rw (add-zero, passing-same f b i, ← r .front) (take-set-le count row count b (omega arith))
 
-    pub list-end : size t ≤ 1024 → size t ≤ b → RowListed t a count row
+    pub list-end : n ≤ 1024 → n ≤ b → RowHolds (passing f n) count row
     list-end s l =
-        let e : b ≡ size t = omega (arith, r .below) in
-        record { long = r .long; few = omega (arith, r .few, r .below); listed = rw e at (r .listed) }
+        let e : b ≡ n = omega (arith, r .below) in
+        record { long = r .long; few = omega (arith, r .few, r .below); front = rw e at (r .front) }
+
+-- ---- keeping those that race with a
+
+-- none up to a is after it
+pub conflict-ahead : (t : Trace) (a k : ℕ) → k ≤ a → conflictAfter t a k ≡ false
+unfolding conflictAfter
+conflict-ahead t a k l = rw (le-ltb a k l)
+
+pub conflict-mark : (t : Trace) {a b mark : ℕ} → a < b → mark ≡ bit (inConflict (operation t a) (operation t b))
+    → mark ≡ bit (conflictAfter t a b)
+unfolding conflictAfter
+conflict-mark t {a} {b} l e = e ∙ rw (lt-ltb a b l)
+
+-- one that is not in conflict with a does not race with it
+conflict-none : (t : Trace) (a b : ℕ) → conflictAfter t a b ≡ false → isRace t a b ≡ false
+unfolding conflictAfter isRace
+conflict-none t a b e =
+    sym (and-assoc (ltb a b) (inConflict (operation t a) (operation t b)) (unorderedIn t a b))
+    ∙ ap (λ (r : Bool). r && unorderedIn t a b) e
+
+-- a listed operation is after a, and in conflict with it
+pub record InConflict (t : Trace) (a b : ℕ) : Type 0 where
+  pub after : a < b
+  pub below : b < size t
+  pub conflict : inConflict (operation t a) (operation t b) ≡ true
+
+-- of the first i of the `count` operations in conflict with a that `row` listed, those that race with it are kept
+pub record Kept (t : Trace) (a count : ℕ) (row : List ℕ) (i : ℕ) (now : List ℕ) (kept : ℕ) : Type 0 where
+  pub held : RowHolds (conflictRow t a) count row
+  pub long : length now ≡ 1024
+  pub few : kept ≤ i
+  pub seen : i ≤ count
+  pub front : take kept now ≡ keptOf (isRace t a) (take i row)
+  pub rest : (j : ℕ) → i ≤ j → getD now j 0 ≡ getD row j 0
+
+pub kept-start : {t : Trace} {a count : ℕ} {row : List ℕ} → RowHolds (conflictRow t a) count row
+    → Kept t a count row 0 row 0
+kept-start h =
+    record {
+      held = h;
+      long = h .long;
+      few = omega arith;
+      seen = omega arith;
+      front = refl;
+      rest = λ j l. refl;
+    }
+
+module _ {t : Trace} {a count : ℕ} {row : List ℕ} {i : ℕ} {now : List ℕ} {kept : ℕ}
+    (k : Kept t a count row i now kept) where
+  pub kept-conflict : {b : ℕ} → i < count → b ≡ getD now i 0 → InConflict t a b
+  unfolding conflictAfter
+  kept-conflict l e =
+      rw (e, k .rest i (omega arith), same)
+      (record {
+        after = ltb-true a (getD (conflictRow t a) i 0) (asked .0);
+        below = here .0;
+        conflict = asked .1;
+      })
+    where
+      same : getD row i 0 ≡ getD (conflictRow t a) i 0
+      same = rw (← k .held .front) (sym (getD-take count row i 0 l))
+
+      here : (getD (conflictRow t a) i 0 < size t) × (conflictAfter t a (getD (conflictRow t a) i 0) ≡ true)
+      here = passing-at (conflictAfter t a) (size t) i (omega (arith, row-count (k .held)))
+
+      asked : (ltb a (getD (conflictRow t a) i 0) ≡ true)
+          × (inConflict (operation t a) (operation t (getD (conflictRow t a) i 0)) ≡ true)
+      asked = both (ltb a (getD (conflictRow t a) i 0)) _ (here .1)
+
+  pub kept-more : {b flag : ℕ} → i < count → b ≡ getD now i 0 → flag ≡ bit (isRace t a b)
+      → Kept t a count row (i + 1) (set now kept (getD now i 0)) (kept + flag)
+  kept-more {b} {flag} l s r =
+      record {
+        held = k .held;
+        long = simp length-set (k .long);
+        few = omega (arith, k .few, e, bit-few (isRace t a (getD now i 0)));
+        seen = omega arith;
+        front = rw (e, add-one) (go (isRace t a x) refl);
+        rest = rest;
+      }
+    where
+      x : ℕ
+      x = getD now i 0
+
+      e : flag ≡ bit (isRace t a x)
+      e = r ∙ ap (λ (y : ℕ). bit (isRace t a y)) s
+
+      next : take (suc i) row ≡ take i row ++ x ∷ []
+      next =
+          rw (k .rest i (omega arith))
+          (take-suc row i 0 (omega (arith, k .held .long, k .held .few)))
+
+      go : (v : Bool) → isRace t a x ≡ v
+          → take (kept + bit v) (set now kept x) ≡ keptOf (isRace t a) (take (suc i) row)
+      go true f =
+          rw (next, kept-one (isRace t a) (take i row) x f, add-one, ← k .front)
+          (take-suc-set now kept x (omega (arith, k .few, k .held .few, k .long)))
+      go false f =
+          rw (next, kept-same (isRace t a) (take i row) x f, add-zero, ← k .front)
+          (take-set-le kept now kept x (omega arith))
+
+      rest : (j : ℕ) → i + 1 ≤ j → getD (set now kept x) j 0 ≡ getD row j 0
+      rest j m = getD-set-other now kept j x 0 (λ z. omega (arith, z, k .few)) ∙ k .rest j (omega arith)
+
+  pub kept-end : count ≤ i → RowHolds (raceRow t a) kept now
+  kept-end l =
+      let e : i ≡ count = omega (arith, k .seen) in
+      record {
+        long = k .long;
+        few = omega (arith, k .few, k .seen, k .held .few);
+        front =
+            k .front
+            ∙ rw (e, k .held .front) (passing-kept (conflictAfter t a) (isRace t a) (conflict-none t a) (size t));
+      }
 
 -- ---- where there are none
 
-module _ {t : Trace} {a : ℕ} {row : List ℕ} (e : length row ≡ 1024) where
-  row-empty : ((b : ℕ) → a < b → b < size t → isRace t a b ≡ false) → RowListed t a 0 row
-  row-empty h = record { long = e; few = omega arith; listed = sym (row-none t a h) }
+module _ (t : Trace) (a : ℕ) {row : List ℕ} (e : length row ≡ 1024) where
+  row-empty : ((b : ℕ) → a < b → b < size t → isRace t a b ≡ false) → RowHolds (raceRow t a) 0 row
+  row-empty h = record { long = e; few = omega arith; front = sym (row-none t a h) }
 
   -- a is no Read or Write
   pub row-no-access : {first last writes : ℕ} → Cells (operation t a) first last writes → last < first
-      → RowListed t a 0 row
+      → RowHolds (raceRow t a) 0 row
   row-no-access c l = row-empty (λ b i j. race-access t a b (cells-apart c l))
 
   -- no other is in conflict with it
   pub row-no-conflict : {marks : List ℕ} {count : ℕ} → ConflictsBelow t a (size t) marks
-      → MarksAtMost a (size t) marks count → count < 1 → RowListed t a 0 row
+      → MarksAtMost a (size t) marks count → count < 1 → RowHolds (raceRow t a) 0 row
   row-no-conflict c m l = row-empty (λ b i j. race-no-conflict t a b
     (bit-none (inConflict (operation t a) (operation t b)) (omega (arith, c .marked b i j, m .most b i j))))

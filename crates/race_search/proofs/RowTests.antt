@@ -199,6 +199,12 @@ module _ {bytes table workers own : List ℕ} {a : ℕ} (r : RowOfTable bytes ta
       rw (x, y, row-unordered, lt-ltb a b l)
       (bit-and (inConflict (operation t a) (operation t b)) (unorderedIn t a b))
 
+  -- where the two are in conflict, that alone tells whether they race
+  pub row-free : {free : ℕ} → inConflict (operation (traceOf bytes) a) (operation (traceOf bytes) b) ≡ true
+      → free ≡ unorderedBit table p a w (getD own a 0) b q (getD own b 0) → free ≡ bit (isRace (traceOf bytes) a b)
+  unfolding isRace
+  row-free x y = rw (y, row-unordered, lt-ltb a b l, x)
+
 -- ---- where a has no race
 
 -- an operation whose first cell is above its last one is no Read or Write

@@ -3,7 +3,7 @@
 -- Differs: nowhere. Means: no call's contract speaks of these. An operation that is no Read or Write has a first cell
 -- above its last one in the arrays, so that it meets none; proofs/RowTests shows that the test by the arrays is the test
 -- of specs/RaceList.
-use mathlib.Core.Bool.{Bool, cond, not}
+use mathlib.Core.Bool.{Bool, cond, not, _&&_}
 use mathlib.Core.List.{List, [], _∷_, _++_}
 use mathlib.Core.Path.{_≡_}
 use Prim.Native.Nat.{ℕ, zero, suc, _+_, _*_, _-_, _<_, _≤_}
@@ -74,6 +74,13 @@ pub record ConflictsBelow (t : Trace) (a n : ℕ) (marks : List ℕ) : Type 0 wh
 pub record MarksAtMost (a n : ℕ) (marks : List ℕ) (count : ℕ) : Type 0 where
   pub most : (b : ℕ) → a < b → b < n → getD marks b 0 ≤ count
 
+-- operation a of a file that reads as a trace, the marks of those after it, and an array for 1,024 operations
+pub record MarkedRow (bytes : List ℕ) (a : ℕ) (marks row : List ℕ) : Type 0 where
+  pub trace : fileReading bytes ≡ reads (traceOf bytes)
+  pub inside : a < size (traceOf bytes)
+  pub conflicts : ConflictsBelow (traceOf bytes) a (size (traceOf bytes)) marks
+  pub row-long : length row ≡ 1024
+
 -- ---- entries of the order table
 
 -- the arrays hold of each operation below n its worker, and the entry of that worker in its own row
@@ -110,11 +117,19 @@ passing f (suc b) = passing f b ++ cond (f b) (b ∷ []) []
 abbrev pub raceRow : Trace → ℕ → List ℕ
 raceRow t a = passing (isRace t a) (size t)
 
--- they stand at the front of an array for 1,024 operations
-pub record RowListed (t : Trace) (a count : ℕ) (row : List ℕ) : Type 0 where
+-- is b after a, and in conflict with it?
+unfoldable pub conflictAfter : Trace → ℕ → ℕ → Bool
+conflictAfter t a b = ltb a b && inConflict (operation t a) (operation t b)
+
+-- those that are
+abbrev pub conflictRow : Trace → ℕ → List ℕ
+conflictRow t a = passing (conflictAfter t a) (size t)
+
+-- an array for 1,024 operations starts with these numbers, of which there are `count`
+pub record RowHolds (numbers : List ℕ) (count : ℕ) (row : List ℕ) : Type 0 where
   pub long : length row ≡ 1024
   pub few : count ≤ 1024
-  pub listed : take count row ≡ raceRow t a
+  pub front : take count row ≡ numbers
 
 -- ---- pairs of operations of two workers
 

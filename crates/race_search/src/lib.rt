@@ -13,7 +13,7 @@ ghost use Rattle.race_search.specs.Premises.{HoldsTable, Inside, PairInT
 ghost use Rattle.race_search.specs.RaceList.{inConflict, isRace, nextRace};
 ghost use Rattle.race_search.specs.Rows.{firstCell, lastCell, CellsFit, ReadsCells, CellsBelow, ReadsPlaces};
 ghost use Rattle.race_search.specs.Rows.{PlacesBelow, conflictBit, RowOfCells, ConflictsBelow, MarksAtMost};
-ghost use Rattle.race_search.specs.Rows.{unorderedBit, RowOfTable, RowListed, pairCount};
+ghost use Rattle.race_search.specs.Rows.{unorderedBit, RowOfTable, MarkedRow, conflictRow, raceRow, RowHolds, pairCount};
 use trace::Operation;
 
 // A race record: the lower and the higher operation.
@@ -147,6 +147,13 @@ fn wide16(x: u8) -> u16
     x as u16
 }
 
+// An operation's number as an index.
+fn index(x: u16) -> usize
+    ensures { λ r. ⌜ (r ≡ x) × (r < 65536) ⌝ }
+{
+    x as usize
+}
+
 // The first cell of a Read or Write; 2^32 - 1 for another operation.
 fn first_cell(o: Operation) -> u32
     ensures { λ r. ⌜ r ≡ firstCell o ⌝ }
@@ -258,9 +265,8 @@ fn list_unordered(
     row: &mut [u16; 1024],
 ) -> usize
     requires { ⌜ RowOfTable (now file) (now table) (now workers) (now own) a
-        × ConflictsBelow (traceOf (now file)) a (size (traceOf (now file))) (now marks)
-        × (length (now row) ≡ 1024) ⌝ }
-    ensures { λ r. ⌜ RowListed (traceOf (now (file .entry))) a r (now (row .exit)) ⌝ }
+        × MarkedRow (now file) a (now marks) (now row) ⌝ }
+    ensures { λ r. ⌜ RowHolds (raceRow (traceOf (now (file .entry))) a) r (now (row .exit)) ⌝ }
 {
     let p = trace::worker_count(file) as usize;
     let n = trace::operation_count(file) as usize;
@@ -275,6 +281,52 @@ fn list_unordered(
         b += 1;
     }
     count
+}
+
+// Lists the marked operations, and answers how many there are.
+fn list_marked(file: &[u8], a: usize, marks: &[u8; 1024], row: &mut [u16; 1024]) -> usize
+    requires { ⌜ MarkedRow (now file) a (now marks) (now row) ⌝ }
+    ensures { λ r. ⌜ RowHolds (conflictRow (traceOf (now (file .entry))) a) r (now (row .exit)) ⌝ }
+{
+    let n = trace::operation_count(file) as usize;
+    let mut count: usize = 0;
+    let mut b = a + 1;
+    while b < n {
+        row[count] = b as u16;
+        count += wide(marks[b]);
+        b += 1;
+    }
+    count
+}
+
+// Keeps those of the `count` listed operations that are unordered with a, and answers how many there are.
+fn keep_unordered(
+    file: &[u8],
+    table: &[u16],
+    workers: &[u8; 1024],
+    own: &[u16; 1024],
+    a: usize,
+    count: usize,
+    row: &mut [u16; 1024],
+) -> usize
+    requires { ⌜ RowOfTable (now file) (now table) (now workers) (now own) a
+        × RowHolds (conflictRow (traceOf (now file)) a) count (now row) ⌝ }
+    ensures { λ r. ⌜ RowHolds (raceRow (traceOf (now (file .entry))) a) r (now (row .exit)) ⌝ }
+{
+    let p = trace::worker_count(file) as usize;
+    let w = wide(workers[a]);
+    let own_a = own[a];
+    let mut kept: usize = 0;
+    let mut i: usize = 0;
+    while i < count {
+        let x = row[i];
+        let b = index(x);
+        let free = unordered_bit(table, p, a, w, own_a, b, wide(workers[b]), own[b]);
+        row[kept] = x;
+        kept += wide(free);
+        i += 1;
+    }
+    kept
 }
 
 // Lists the operations that race with a, of those after it, and answers how many there are.
@@ -294,14 +346,19 @@ pub fn list_row(
         × RowOfTable (now file) (now table) (now workers) (now own) a
         × (length (now marks) ≡ 1024)
         × (length (now row) ≡ 1024) ⌝ }
-    ensures { λ r. ⌜ RowListed (traceOf (now (file .entry))) a r (now (row .exit))
+    ensures { λ r. ⌜ RowHolds (raceRow (traceOf (now (file .entry))) a) r (now (row .exit))
         × (length (now (marks .exit)) ≡ 1024) ⌝ }
 {
     if last[a] < first[a] {
         return 0;
     }
-    if mark_conflicts(file, first, last, writes, a, marks) < 1 {
+    let count = mark_conflicts(file, first, last, writes, a, marks);
+    if count < 1 {
         return 0;
+    }
+    if count < 256 {
+        let listed = list_marked(file, a, marks, row);
+        return keep_unordered(file, table, workers, own, a, listed, row);
     }
     list_unordered(file, table, workers, own, a, marks, row)
 }

@@ -14,7 +14,7 @@ use Rattle.lent.proofs.Writing.{Written, written-none, written-part}
 use Rattle.race_search.specs.declared.Race.{Race}
 use Rattle.race_search.specs.Premises.{HoldsTable, Resumes, raceBefore}
 use Rattle.race_search.specs.RaceList.{pair, racesBelow, raceList, raceCount}
-use Rattle.race_search.specs.Rows.{CellsBelow, PlacesBelow, RowOfCells, RowOfTable, raceRow, RowListed}
+use Rattle.race_search.specs.Rows.{CellsBelow, PlacesBelow, RowOfCells, RowOfTable, raceRow, RowHolds}
 use Rattle.race_search.proofs.Chain.{race-operations}
 use Rattle.race_search.proofs.RowLists.{map-append, below-start, below-next, below-count, below-few, below-all, row-count}
 use Rattle.race_search.proofs.TableEntries.{table-reads}
@@ -102,7 +102,7 @@ count-none t e f =
 
 module _ {t : Trace} {a count : ℕ} {marks row : List ℕ} (c : Counted t a count marks row) where
   pub count-more : {more : ℕ} {marks-now row-now : List ℕ} → a < size t
-      → RowListed t a more row-now × (length marks-now ≡ 1024) → Counted t (a + 1) (count + more) marks-now row-now
+      → RowHolds (raceRow t a) more row-now × (length marks-now ≡ 1024) → Counted t (a + 1) (count + more) marks-now row-now
   count-more {more} l (r, e) =
       record {
         below = omega arith;
@@ -160,7 +160,7 @@ module _ {t : Trace} {a at : ℕ} {lower lower-now higher higher-now marks row :
   rows-at = sym (w .low .place) ∙ length-map (racesBelow t a) (λ (r : Race). r .lower)
 
   -- a row more has room
-  module _ {more : ℕ} {row-now : List ℕ} (l : a < size t) (r : RowListed t a more row-now) where
+  module _ {more : ℕ} {row-now : List ℕ} (l : a < size t) (r : RowHolds (raceRow t a) more row-now) where
     pub rows-room : at + more ≤ raceCount t
     rows-room = omega (arith, rows-at, below-count t a, row-count r, below-few t (suc a) (omega arith))
 
@@ -193,7 +193,7 @@ module _ {t : Trace} {a at : ℕ} {lower lower-now higher higher-now marks row :
             (omega (arith, rows-room))
 
         high : Written (at + more) (highers (racesBelow t a) ++ raceRow t a) higher (paste higher-now at row-now more)
-        high = pasted-written row-now (raceRow t a) (w .high) count (r .listed) (omega (arith, rows-room))
+        high = pasted-written row-now (raceRow t a) (w .high) count (r .front) (omega (arith, rows-room))
 
   -- ---- the end
 

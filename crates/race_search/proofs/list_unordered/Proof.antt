@@ -1,3 +1,6 @@
+use Rattle.trace.specs.Trace.{size}
+use Rattle.race_search.specs.RaceList.{isRace}
+use Rattle.race_search.proofs.RaceTests.{no-race-ahead}
 use Rattle.race_search.proofs.TableEntries.{table-reads, table-short}
 use Rattle.race_search.proofs.RowTests.{row-inside, row-race}
 use Rattle.race_search.proofs.RowSteps.{Listed, list-start, list-more, list-end}
@@ -16,7 +19,7 @@ use Rattle.trace.proofs.operation_count.Reads as operation-count-reads
 use Rattle.trace.proofs.worker_count.Reads as worker-count-reads
 
 abbrev Inv-loop : tie.InvT-loop
-Inv-loop file table workers own a marks row₀ p n w own-a count₀ b₀ row count b = Listed (traceOf file) a b row count
+Inv-loop file table workers own a marks row₀ p n w own-a count₀ b₀ row count b = Listed (isRace (traceOf file) a) (size (traceOf file)) a b row count
 
 abbrev μ-loop : tie.MeasureT-loop
 μ-loop file table workers own a marks row₀ p n w own-a count₀ b₀ row count b = n - b
@@ -59,7 +62,7 @@ add-b c = omega (arith, table-short (c .before .before .before .before .before .
 
 -- src/lib.rt:262:5
 loop-holds : tie.Need-loop-holds Inv-loop μ-loop
-loop-holds c = list-start (c .before .before .before .before .before .before .before .pre .2) (c .before .before .before .before .before .before .before .pre .0 .inside)
+loop-holds c = let pre = c .before .before .before .before .before .before .before .pre in list-start _ (pre .1 .row-long) (pre .1 .inside) (λ k l. no-race-ahead _ _ k l)
 
 -- src/lib.rt:263:65
 element-copy-out-wide-2 : tie.Need-element-copy-out-wide-2 Inv-loop μ-loop
@@ -117,15 +120,15 @@ loop-less c = search needs
 loop-again : tie.Need-loop-again Inv-loop μ-loop
 loop-again c = let c7 = c .before .before .before .before .before .before .before in
     let c15 = c .before .before .before .before .before .before .before .before .before .before .before .before .before .before .before in
-    let (row, marks, long) = c15 .pre in
+    let (row, marks) = c15 .pre in
     let size = c .before .before .before .before .before .before .before .before .before .before .before .operation-count .ensures in
     let ahead = c7 .loop .inv .few in
     let below = c .before .before .before .before .before .before .loop-test .taken in
-    list-more (c7 .loop .inv) (table-short (row .holds)) (omega (arith, size, below)) (c .wide3 .ensures .0 ∙ row-race row (omega (arith, ahead)) (omega (arith, size, below)) (c .before .before .before .before .before .before .before .before .before .before .before .before .worker-count .ensures) (c .before .before .before .before .before .before .before .before .before .wide .ensures .0) (c .before .before .before .before .wide2 .ensures .0) (marks .marked _ (omega (arith, ahead)) (omega (arith, size, below))) (c .before .before .unordered-bit .ensures))
+    list-more _ (c7 .loop .inv) (table-short (row .holds)) (omega (arith, size, below)) (c .wide3 .ensures .0 ∙ row-race row (omega (arith, ahead)) (omega (arith, size, below)) (c .before .before .before .before .before .before .before .before .before .before .before .before .worker-count .ensures) (c .before .before .before .before .before .before .before .before .before .wide .ensures .0) (c .before .before .before .before .wide2 .ensures .0) (marks .conflicts .marked _ (omega (arith, ahead)) (omega (arith, size, below))) (c .before .before .unordered-bit .ensures))
 
 -- src/lib.rt:243:1
 returns : tie.Need-returns Inv-loop μ-loop
-returns c = list-end (c .before .loop .inv) (table-short (c .before .before .before .before .before .before .before .before .before .pre .0 .holds)) (omega (arith, c .before .before .before .before .before .operation-count .ensures, c .loop-test .left))
+returns c = list-end _ (c .before .loop .inv) (table-short (c .before .before .before .before .before .before .before .before .before .pre .0 .holds)) (omega (arith, c .before .before .before .before .before .operation-count .ensures, c .loop-test .left))
 
 pub list-unordered-spec : {M : Type 1} → statement M
 list-unordered-spec =
