@@ -356,7 +356,8 @@ pub fn list_row(
     if count < 1 {
         return 0;
     }
-    if count < 256 {
+    let n = trace::operation_count(file) as usize;
+    if 3 * index(count) < 2 * (n - a) {
         let listed = list_marked(file, a, marks, row);
         return keep_unordered(file, table, workers, own, a, listed, row);
     }

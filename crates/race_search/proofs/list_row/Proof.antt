@@ -6,10 +6,12 @@ use Rattle.race_search.proofs.list_row.Statement.{statement}
 use Rattle.race_search.proofs.list_row.Tie as tie
 use Rattle.race_search.proofs.list_row.Reads as reads
 use Rattle.race_search.proofs.list_row.Lts as lts
+use Rattle.race_search.proofs.index.Reads as index-reads
 use Rattle.race_search.proofs.keep_unordered.Reads as keep-unordered-reads
 use Rattle.race_search.proofs.list_marked.Reads as list-marked-reads
 use Rattle.race_search.proofs.list_unordered.Reads as list-unordered-reads
 use Rattle.race_search.proofs.mark_conflicts.Reads as mark-conflicts-reads
+use Rattle.trace.proofs.operation_count.Reads as operation-count-reads
 
 -- src/lib.rt:352:8
 mul-if1 : tie.Need-mul-if1
@@ -41,19 +43,43 @@ returns-2 : tie.Need-returns-2
 returns-2 c = let (conflicts, most) = c .before .mark-conflicts .ensures in
     (row-no-conflict _ _ (c .before .before .before .before .before .before .before .before .pre .3) conflicts most (c .if2 .taken), conflicts .long)
 
--- src/lib.rt:360:13
+-- src/lib.rt:359:13
+operation-count-requires : tie.Need-operation-count-requires
+operation-count-requires c κs = search needs
+
+-- src/lib.rt:359:13
+cast-n : tie.Need-cast-n
+cast-n c = search needs
+
+-- src/lib.rt:360:12
+index-requires : tie.Need-index-requires
+index-requires c κs = search needs
+
+-- src/lib.rt:360:8
+mul-if3 : tie.Need-mul-if3
+mul-if3 c = search needs
+
+-- src/lib.rt:360:32
+sub-if3 : tie.Need-sub-if3
+sub-if3 c = search needs
+
+-- src/lib.rt:360:27
+mul-if3-2 : tie.Need-mul-if3-2
+mul-if3-2 c = search needs
+
+-- src/lib.rt:361:13
 list-marked-requires : tie.Need-list-marked-requires
 list-marked-requires c κs = search needs
 
--- src/lib.rt:361:9
+-- src/lib.rt:362:9
 keep-unordered-requires : tie.Need-keep-unordered-requires
 keep-unordered-requires c κs = search needs
 
--- src/lib.rt:361:9
+-- src/lib.rt:362:9
 returns-3 : tie.Need-returns-3
 returns-3 c = search needs
 
--- src/lib.rt:363:5
+-- src/lib.rt:364:5
 list-unordered-requires : tie.Need-list-unordered-requires
 list-unordered-requires c κs = search needs
 
@@ -72,6 +98,12 @@ list-row-spec =
     returns
     mark-conflicts-requires
     returns-2
+    operation-count-requires
+    cast-n
+    index-requires
+    mul-if3
+    sub-if3
+    mul-if3-2
     list-marked-requires
     keep-unordered-requires
     returns-3
