@@ -84,11 +84,13 @@ module _ (t : Trace) where
     rows-pairs (suc k) l =
         let before = rows-pairs k (omega arith) in
         let fewer = passing-fewer (λ a. isRace t a k) (λ a. not (isOf t (workerOf t k) a)) k apart in
-        let ahead = ap length (passing-end (λ a. isRace t a k) k (size t) (omega arith) (λ a i. no-race-ahead t a k i)) in
-        omega (arith, before, fewer, ahead, rows-more (size t) k)
+        omega (arith, before, fewer, ap length ahead, rows-more (size t) k)
       where
         apart : (a : ℕ) → a < k → not (isOf t (workerOf t k) a) ≡ false → isRace t a k ≡ false
         apart a i e = race-same-worker t a k w i (eqb-true _ _ (not-false _ e))
+
+        ahead : passing (λ a. isRace t a k) (size t) ≡ passing (λ a. isRace t a k) k
+        ahead = passing-end (λ a. isRace t a k) k (size t) (omega arith) (λ a i. no-race-ahead t a k i)
 
     pub races-pairs : raceCount t ≤ pairCount t
     races-pairs = omega (arith, rows-pairs (size t) (omega arith), rows-below (size t), ap length (below-all t))
@@ -135,7 +137,8 @@ module _ (t : Trace) {seen : List ℕ} where
         others : k - getD seen q 0 ≡ length (passing (λ a. not (isOf t q a)) k)
         others = omega (arith, p .each q l, passing-split (isOf t q) k)
 
-        passing-count-at : (r : ℕ) → length (passing (isOf t r) (k + 1)) ≡ length (passing (isOf t r) k) + bit (isOf t r k)
+        passing-count-at : (r : ℕ)
+            → length (passing (isOf t r) (k + 1)) ≡ length (passing (isOf t r) k) + bit (isOf t r k)
         passing-count-at r = rw add-one (passing-count (isOf t r) k)
 
         each : (r : ℕ) → r < 256

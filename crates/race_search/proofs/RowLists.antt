@@ -39,7 +39,8 @@ module _ (f : ℕ → Bool) where
   ]
 
   -- each of them is below n, and passes
-  pub passing-at : (n i : ℕ) → i < length (passing f n) → (getD (passing f n) i 0 < n) × (f (getD (passing f n) i 0) ≡ true)
+  pub passing-at : (n i : ℕ) → i < length (passing f n)
+      → (getD (passing f n) i 0 < n) × (f (getD (passing f n) i 0) ≡ true)
   unfolding passing
   passing-at zero i l = absurd (omega (arith, l))
   passing-at (suc b) i l = go (f b) refl (less? i (length (passing f b))) (passing-at b i)
@@ -102,7 +103,8 @@ row-count {count = count} {row} r =
     rw (← r .front) (length-take-le count row (omega (arith, r .few, r .long)))
 
 module _ (t : Trace) where
-  pub row-races : (before : List Race) (a b : ℕ) → racesOf t before a b ≡ before ++ map (pair a) (passing (isRace t a) b)
+  pub row-races : (before : List Race) (a b : ℕ)
+      → racesOf t before a b ≡ before ++ map (pair a) (passing (isRace t a) b)
   unfolding racesOf passing
   row-races before a zero = sym (append-nil before)
   row-races before a (suc b) = go (isRace t a b) refl (row-races before a b)

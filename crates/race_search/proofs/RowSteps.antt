@@ -343,4 +343,4 @@ module _ (t : Trace) (a : ℕ) {row : List ℕ} (e : length row ≡ 1024) where
   pub row-no-conflict : {marks : List ℕ} {count : ℕ} → ConflictsBelow t a (size t) marks
       → MarksAtMost a (size t) marks count → count < 1 → RowHolds (raceRow t a) 0 row
   row-no-conflict c m l = row-empty (λ b i j. race-no-conflict t a b
-    (bit-none (inConflict (operation t a) (operation t b)) (omega (arith, c .marked b i j, m .most b i j))))
+      (bit-none (inConflict (operation t a) (operation t b)) (omega (arith, c .marked b i j, m .most b i j))))

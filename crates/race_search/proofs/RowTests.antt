@@ -211,5 +211,5 @@ module _ {bytes table workers own : List ℕ} {a : ℕ} (r : RowOfTable bytes ta
 pub cells-apart : {o : Operation} {first last writes : ℕ} → Cells o first last writes → last < first
     → isAccess (o .kind) ≡ false
 cells-apart {o} c l = never-passes (isAccess (o .kind)) (λ e.
-  let (some, first, last) = cells-access (c .fit) e in
-  omega (arith, some, first, last, c .first-cell, c .last-cell, l))
+    let (some, first, last) = cells-access (c .fit) e in
+    omega (arith, some, first, last, c .first-cell, c .last-cell, l))

@@ -1,8 +1,8 @@
 -- The races of one operation with later ones, found from arrays that hold what each operation's record says.
 -- Follows: document 01, "Race list".
 -- Differs: nowhere. Means: no call's contract speaks of these. An operation that is no Read or Write has a first cell
--- above its last one in the arrays, so that it meets none; proofs/RowTests shows that the test by the arrays is the test
--- of specs/RaceList.
+-- above its last one in the arrays, so that it meets none; proofs/RowTests shows that the test by the arrays is that of
+-- specs/RaceList.
 use mathlib.Core.Bool.{Bool, cond, not, _&&_}
 use mathlib.Core.List.{List, [], _∷_, _++_}
 use mathlib.Core.Path.{_≡_}

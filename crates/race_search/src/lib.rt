@@ -13,7 +13,8 @@ ghost use Rattle.race_search.specs.Premises.{HoldsTable, Inside, PairInT
 ghost use Rattle.race_search.specs.RaceList.{inConflict, isRace, nextRace};
 ghost use Rattle.race_search.specs.Rows.{firstCell, lastCell, CellsFit, ReadsCells, CellsBelow, ReadsPlaces};
 ghost use Rattle.race_search.specs.Rows.{PlacesBelow, conflictBit, RowOfCells, ConflictsBelow, MarksAtMost};
-ghost use Rattle.race_search.specs.Rows.{unorderedBit, RowOfTable, MarkedRow, conflictRow, raceRow, RowHolds, pairCount};
+ghost use Rattle.race_search.specs.Rows.{unorderedBit, RowOfTable, MarkedRow, conflictRow, raceRow, RowHolds};
+ghost use Rattle.race_search.specs.Rows.{pairCount};
 use trace::Operation;
 
 // A race record: the lower and the higher operation.
@@ -176,7 +177,12 @@ fn last_cell(o: Operation) -> u32
 }
 
 // Reads the cells of all operations: the first, the last, and 1 for a Write.
-pub fn read_cells(file: &[u8], first: &mut [u32; 1024], last: &mut [u32; 1024], writes: &mut [u8; 1024])
+pub fn read_cells(
+    file: &[u8],
+    first: &mut [u32; 1024],
+    last: &mut [u32; 1024],
+    writes: &mut [u8; 1024],
+)
     requires { ⌜ ReadsCells (now file) (now first) (now last) (now writes) ⌝ }
     ensures { λ r. ⌜ CellsBelow (traceOf (now (file .entry))) (size (traceOf (now (file .entry)))) (now (first .exit))
         (now (last .exit)) (now (writes .exit)) ⌝ }
@@ -210,7 +216,14 @@ pub fn read_places(file: &[u8], table: &[u16], workers: &mut [u8; 1024], own: &m
 }
 
 // 1 where two operations are in conflict, by their cells and whether they write; 0 otherwise.
-fn conflict_bit(first: u32, last: u32, writes: u8, other_first: u32, other_last: u32, other_writes: u8) -> u8
+fn conflict_bit(
+    first: u32,
+    last: u32,
+    writes: u8,
+    other_first: u32,
+    other_last: u32,
+    other_writes: u8,
+) -> u8
     ensures { λ r. ⌜ r ≡ conflictBit first last writes «other_first» «other_last» «other_writes» ⌝ }
 {
     (writes | other_writes) & ((first <= other_last) as u8) & ((other_first <= last) as u8)
@@ -247,7 +260,16 @@ fn mark_conflicts(
 
 // 1 where neither of a and b is certain before the other: row a counts more operations of b's worker q than b's own row
 // does, and row b more of a's worker w than a's own.
-fn unordered_bit(table: &[u16], p: usize, a: usize, w: usize, own_a: u16, b: usize, q: usize, own_b: u16) -> u8
+fn unordered_bit(
+    table: &[u16],
+    p: usize,
+    a: usize,
+    w: usize,
+    own_a: u16,
+    b: usize,
+    q: usize,
+    own_b: u16,
+) -> u8
     requires { ⌜ Inside (now table) p a q × Inside (now table) p b w ⌝ }
     ensures { λ r. ⌜ r ≡ unorderedBit (now (table .entry)) p a w «own_a» b q «own_b» ⌝ }
 {

@@ -16,7 +16,8 @@ use Rattle.race_search.specs.Premises.{HoldsTable, Resumes, raceBefore}
 use Rattle.race_search.specs.RaceList.{pair, racesBelow, raceList, raceCount}
 use Rattle.race_search.specs.Rows.{CellsBelow, PlacesBelow, RowOfCells, RowOfTable, raceRow, RowHolds}
 use Rattle.race_search.proofs.Chain.{race-operations}
-use Rattle.race_search.proofs.RowLists.{map-append, below-start, below-next, below-count, below-few, below-all, row-count}
+use Rattle.race_search.proofs.RowLists.{map-append, row-count, below-start, below-next, below-count, below-few}
+use Rattle.race_search.proofs.RowLists.{below-all}
 use Rattle.race_search.proofs.TableEntries.{table-reads}
 use Rattle.races.specs.Premises.{Writable, AllWritten}
 use Rattle.races.specs.Races.{lowers, highers}
@@ -102,7 +103,8 @@ count-none t e f =
 
 module _ {t : Trace} {a count : ℕ} {marks row : List ℕ} (c : Counted t a count marks row) where
   pub count-more : {more : ℕ} {marks-now row-now : List ℕ} → a < size t
-      → RowHolds (raceRow t a) more row-now × (length marks-now ≡ 1024) → Counted t (a + 1) (count + more) marks-now row-now
+      → RowHolds (raceRow t a) more row-now × (length marks-now ≡ 1024)
+      → Counted t (a + 1) (count + more) marks-now row-now
   count-more {more} l (r, e) =
       record {
         below = omega arith;

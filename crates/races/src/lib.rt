@@ -201,10 +201,10 @@ fn too_many(file: &[u8], table: &[u16], room: usize) -> u32
         return 0;
     }
     let count = count_races(file, table);
-    if count as usize <= room {
-        return 0;
+    if room < count as usize {
+        return count;
     }
-    count
+    0
 }
 
 // Question 16 of a file whose table is filled; where it does not refuse, the races.

@@ -1,36 +1,39 @@
+-- `last_cell` meets its contract: the last cell has 32 bits. Assumes nothing.
 use mathlib.Core.Path.{sym, _∙_}
-use Rattle.runs.proofs.Booleans.{test-true}
-use Rattle.race_search.specs.Rows.{lastCell}
 use native.Mathlib.Omega.{arith}
 use borrow.Author.Needs.{needs}
+use Rattle.runs.proofs.Booleans.{test-true}
+use Rattle.race_search.specs.Rows.{lastCell}
 use Rattle.race_search.proofs.last_cell.Statement.{statement}
 use Rattle.race_search.proofs.last_cell.Tie as tie
-use Rattle.race_search.proofs.last_cell.Reads as reads
-use Rattle.race_search.proofs.last_cell.Lts as lts
-use Rattle.trace.proofs.is_access.Reads as is-access-reads
 
--- src/lib.rt:157:8
 is-access-requires : tie.Need-is-access-requires
 is-access-requires c κs = search needs
 
--- src/lib.rt:158:28
 cast-result : tie.Need-cast-result
 cast-result c = search needs
 
--- src/lib.rt:158:28
 sub-result : tie.Need-sub-result
-sub-result c = omega (arith, c .before .before .before .pre .cells (test-true _ .0 (sym (c .before .before .is-access .ensures) ∙ c .before .if1 .taken)))
+sub-result c =
+    let c1 = c .before in
+    let c2 = c1 .before in
+    let c3 = c2 .before in
+    omega (arith, c3 .pre .cells (test-true _ .0 (sym (c2 .is-access .ensures) ∙ c1 .if1 .taken)))
 
--- src/lib.rt:158:16
 add-result : tie.Need-add-result
-add-result c = omega (arith, c .before .before .before .before .pre .cells (test-true _ .0 (sym (c .before .before .before .is-access .ensures) ∙ c .before .before .if1 .taken)))
+add-result c =
+    let c2 = c .before .before in
+    let c3 = c2 .before in
+    let c4 = c3 .before in
+    omega (arith, c4 .pre .cells (test-true _ .0 (sym (c3 .is-access .ensures) ∙ c2 .if1 .taken)))
 
--- src/lib.rt:158:9
 returns : tie.Need-returns
 unfolding lastCell
-returns c = rw (← c .before .before .before .is-access .ensures, c .before .before .if1 .taken)
+returns c =
+    let c2 = c .before .before in
+    let c3 = c2 .before in
+    rw (← c3 .is-access .ensures, c2 .if1 .taken)
 
--- src/lib.rt:153:1
 returns-2 : tie.Need-returns-2
 unfolding lastCell
 returns-2 c = rw (← c .before .is-access .ensures, c .if1 .left)

@@ -1,18 +1,14 @@
-use Rattle.race_search.proofs.TableEntries.{table-reads, table-short, own-inside}
-use Rattle.race_search.proofs.RowSteps.{PlacesRead, places-start, places-more, places-end}
-use Rattle.race_search.specs.Premises.{Inside}
-use Rattle.trace.specs.Reading.{traceOf}
-use borrow.Author.Needs.{needs}
-use Prim.Native.Nat.{_-_}
+-- `read_places` meets its contract. The invariant: the workers and own entries of the operations below k are read.
+-- Assumes nothing.
 use native.Mathlib.Omega.{arith}
+use Prim.Native.Nat.{_-_}
+use borrow.Author.Needs.{needs}
+use Rattle.trace.specs.Reading.{traceOf}
+use Rattle.race_search.specs.Premises.{Inside}
+use Rattle.race_search.proofs.RowSteps.{PlacesRead, places-start, places-more, places-end}
+use Rattle.race_search.proofs.TableEntries.{table-reads, table-short, own-inside}
 use Rattle.race_search.proofs.read_places.Statement.{statement}
 use Rattle.race_search.proofs.read_places.Tie as tie
-use Rattle.race_search.proofs.read_places.Reads as reads
-use Rattle.race_search.proofs.read_places.Lts as lts
-use Rattle.race_search.proofs.wide.Reads as wide-reads
-use Rattle.trace.proofs.operation_count.Reads as operation-count-reads
-use Rattle.trace.proofs.worker_count.Reads as worker-count-reads
-use Rattle.trace.proofs.worker_of.Reads as worker-of-reads
 
 abbrev Inv-loop : tie.InvT-loop
 Inv-loop file table workers₀ own₀ p n k₀ workers own k = PlacesRead (traceOf file) k table workers own
@@ -20,81 +16,113 @@ Inv-loop file table workers₀ own₀ p n k₀ workers own k = PlacesRead (trace
 abbrev μ-loop : tie.MeasureT-loop
 μ-loop file table workers₀ own₀ p n k₀ workers own k = n - k
 
--- src/lib.rt:186:13
 worker-count-requires : tie.Need-worker-count-requires Inv-loop μ-loop
-worker-count-requires c κs = table-reads (c .before .before .pre .holds)
+worker-count-requires c κs =
+    let c2 = c .before .before in
+    table-reads (c2 .pre .holds)
 
--- src/lib.rt:186:13
 cast-p : tie.Need-cast-p Inv-loop μ-loop
 cast-p c = search needs
 
--- src/lib.rt:187:13
 operation-count-requires : tie.Need-operation-count-requires Inv-loop μ-loop
-operation-count-requires c κs = table-reads (c .before .before .before .pre .holds)
+operation-count-requires c κs =
+    let c3 = c .before .before .before in
+    table-reads (c3 .pre .holds)
 
--- src/lib.rt:187:13
 cast-n : tie.Need-cast-n Inv-loop μ-loop
 cast-n c = search needs
 
--- src/lib.rt:189:5
 loop-holds : tie.Need-loop-holds Inv-loop μ-loop
-loop-holds c = places-start (c .before .before .before .before .pre .workers-long) (c .before .before .before .before .pre .own-long)
+loop-holds c =
+    let c4 = c .before .before .before .before in
+    places-start (c4 .pre .workers-long) (c4 .pre .own-long)
 
--- src/lib.rt:190:13
 worker-of-requires : tie.Need-worker-of-requires Inv-loop μ-loop
-worker-of-requires c κs = omega (arith, c .before .before .operation-count .ensures, c .loop-test .taken)
+worker-of-requires c κs =
+    let c2 = c .before .before in
+    omega (arith, c2 .operation-count .ensures, c .loop-test .taken)
 
--- src/lib.rt:191:9
 element-write-workers : tie.Need-element-write-workers Inv-loop μ-loop
-element-write-workers c = omega (arith, table-short (c .before .before .before .before .before .before .before .pre .holds), c .before .before .before .operation-count .ensures, c .before .loop-test .taken)
+element-write-workers c =
+    let c1 = c .before in
+    let c3 = c1 .before .before in
+    let c7 = c3 .before .before .before .before in
+    omega (arith, table-short (c7 .pre .holds), c3 .operation-count .ensures, c1 .loop-test .taken)
 
 -- the entry lies inside the table
-here : (c : tie.After-worker-of Inv-loop μ-loop) → Inside (c .before .before .before .before .before .before .before .args .table .now) (c .before .before .before .before .worker-count .result) (c .before .before .loop .k) (c .worker-of .result)
-here c = let c3 = c .before .before .before in own-inside (c3 .before .before .before .before .pre .holds) (omega (arith, c3 .operation-count .ensures, c .before .loop-test .taken)) (c3 .before .worker-count .ensures) (c .worker-of .ensures)
+abbrev Here : tie.After-worker-of Inv-loop μ-loop → Type 0
+Here c =
+    let c4 = c .before .before .before .before in
+    let a = c4 .before .before .before .args in
+    Inside (a .table .now) (c4 .worker-count .result) (c .before .before .loop .k) (c .worker-of .result)
 
--- src/lib.rt:192:24
+here : (c : tie.After-worker-of Inv-loop μ-loop) → Here c
+here c =
+    let c1 = c .before in
+    let c3 = c1 .before .before in
+    let c4 = c3 .before in
+    let pre = c4 .before .before .before .pre in
+    own-inside (pre .holds)
+    (omega (arith, c3 .operation-count .ensures, c1 .loop-test .taken))
+    (c4 .worker-count .ensures)
+    (c .worker-of .ensures)
+
 mul-own : tie.Need-mul-own Inv-loop μ-loop
 mul-own c = omega (arith, here c .row-few)
 
--- src/lib.rt:192:32
 wide-requires : tie.Need-wide-requires Inv-loop μ-loop
 wide-requires c κs = search needs
 
--- src/lib.rt:192:24
 add-own : tie.Need-add-own Inv-loop μ-loop
 add-own c = omega (arith, here (c .before) .few, c .wide .ensures)
 
--- src/lib.rt:192:18
 mul-own-2 : tie.Need-mul-own-2 Inv-loop μ-loop
 mul-own-2 c = omega (arith, here (c .before) .few, c .wide .ensures)
 
--- src/lib.rt:192:18
 shared-slice-read-own : tie.Need-shared-slice-read-own Inv-loop μ-loop
-shared-slice-read-own c = omega (arith, here (c .before .before) .inside, c .before .wide .ensures)
+shared-slice-read-own c =
+    let c1 = c .before in
+    let c2 = c1 .before in
+    omega (arith, here (c2) .inside, c1 .wide .ensures)
 
--- src/lib.rt:192:9
 mul-own-3 : tie.Need-mul-own-3 Inv-loop μ-loop
-mul-own-3 c = omega (arith, table-short (c .before .before .before .before .before .before .before .before .before .pre .holds), c .before .before .before .before .before .operation-count .ensures, c .before .before .before .loop-test .taken)
+mul-own-3 c =
+    let c3 = c .before .before .before in
+    let c5 = c3 .before .before in
+    let c9 = c5 .before .before .before .before in
+    omega (arith, table-short (c9 .pre .holds), c5 .operation-count .ensures, c3 .loop-test .taken)
 
--- src/lib.rt:192:9
 element-write-own : tie.Need-element-write-own Inv-loop μ-loop
-element-write-own c = omega (arith, table-short (c .before .before .before .before .before .before .before .before .before .pre .holds), c .before .before .before .before .before .operation-count .ensures, c .before .before .before .loop-test .taken)
+element-write-own c =
+    let c3 = c .before .before .before in
+    let c5 = c3 .before .before in
+    let c9 = c5 .before .before .before .before in
+    omega (arith, table-short (c9 .pre .holds), c5 .operation-count .ensures, c3 .loop-test .taken)
 
--- src/lib.rt:193:9
 add-k : tie.Need-add-k Inv-loop μ-loop
 add-k c = search needs
 
--- src/lib.rt:189:5
 loop-less : tie.Need-loop-less Inv-loop μ-loop
 loop-less c = search needs
 
--- src/lib.rt:189:5
 loop-again : tie.Need-loop-again Inv-loop μ-loop
-loop-again c = places-more (c .before .before .before .before .loop .inv) (omega (arith, table-short (c .before .before .before .before .before .before .before .before .before .pre .holds), c .before .before .before .before .before .operation-count .ensures, c .before .before .before .loop-test .taken)) (c .before .before .before .before .before .before .worker-count .ensures) (c .before .before .worker-of .ensures) (c .before .wide .ensures .0)
+loop-again c =
+    let c1 = c .before in
+    let c2 = c1 .before in
+    let c3 = c2 .before in
+    let c4 = c3 .before in
+    let c5 = c4 .before in
+    let c6 = c5 .before in
+    let c9 = c6 .before .before .before in
+    places-more (c4 .loop .inv)
+    (omega (arith, table-short (c9 .pre .holds), c5 .operation-count .ensures, c3 .loop-test .taken))
+    (c6 .worker-count .ensures) (c2 .worker-of .ensures) (c1 .wide .ensures .0)
 
--- src/lib.rt:181:1
 returns : tie.Need-returns Inv-loop μ-loop
-returns c = places-end (c .before .loop .inv) (omega (arith, c .before .before .operation-count .ensures, c .loop-test .left))
+returns c =
+    let c1 = c .before in
+    let c2 = c1 .before in
+    places-end (c1 .loop .inv) (omega (arith, c2 .operation-count .ensures, c .loop-test .left))
 
 pub read-places-spec : {M : Type 1} → statement M
 read-places-spec =
