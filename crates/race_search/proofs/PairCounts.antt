@@ -1,7 +1,7 @@
 -- Pairs of operations of two workers. In order: how many numbers pass a test; there are no more races than such pairs;
 -- counting the pairs.
 use mathlib.Core.Bool.{Bool, true, false, not, true≢false}
-use mathlib.Core.List.{List, [], _∷_, _++_}
+use mathlib.Core.List.{List, [], _∷_}
 use mathlib.Core.Logic.{inl, inr}
 use mathlib.Core.Path.{_≡_, refl, sym, ap, _∙_}
 use native.Mathlib.Numerals.{add-one}
@@ -10,11 +10,11 @@ use Prim.Native.Nat.{ℕ, zero, suc, _+_, _*_, _-_, _<_, _≤_}
 use lib.ListN.{length, getD, set, length-set, length-append}
 use lib.Seq.{getD-set-same, getD-set-other}
 use borrow.Author.Tests.{eq-eqb, ne-eqb, eqb-true, not-false}
-use Rattle.runs.proofs.Booleans.{equal?, less?}
+use Rattle.runs.proofs.Booleans.{equal?}
 use Rattle.trace.specs.Trace.{Trace, size, workerOf}
 use Rattle.model.specs.Rule.{WorkersKnown}
 use Rattle.race_search.specs.RaceList.{isRace, racesBelow, raceCount}
-use Rattle.race_search.specs.Rows.{bit, passing, raceRow, isOf, pairsBelow, pairCount}
+use Rattle.race_search.specs.Rows.{bit, passing, isOf, pairsBelow, pairCount}
 use Rattle.race_search.proofs.RaceTests.{race-same-worker, no-race-ahead}
 use Rattle.race_search.proofs.RowLists.{passing-more, passing-same, passing-end, below-start, below-count}
 use Rattle.race_search.proofs.RowLists.{below-all}

@@ -5,7 +5,7 @@ use mathlib.Core.Logic.{_⊎_, inl, inr}
 use mathlib.Core.Path.{_≡_, refl, sym, ap, _∙_}
 use native.Mathlib.Omega.{arith}
 use Prim.Native.Nat.{ℕ, zero, suc, _+_, _<_, _≤_}
-use lib.ListN.{length, getD, take, length-append, length-map, List·getD-append}
+use lib.ListN.{length, getD, length-append, length-map, List·getD-append}
 use lib.Seq.{length-take-le, getD-append-seam}
 use Rattle.runs.proofs.Booleans.{equal?, less?}
 use Rattle.trace.specs.Trace.{Trace, size}
@@ -103,7 +103,7 @@ row-count {count = count} {row} r =
     rw (← r .front) (length-take-le count row (omega (arith, r .few, r .long)))
 
 module _ (t : Trace) where
-  pub row-races : (before : List Race) (a b : ℕ)
+  row-races : (before : List Race) (a b : ℕ)
       → racesOf t before a b ≡ before ++ map (pair a) (passing (isRace t a) b)
   unfolding racesOf passing
   row-races before a zero = sym (append-nil before)

@@ -8,7 +8,7 @@ use mathlib.Core.Path.{_≡_, refl, sym, ap, _∙_}
 use native.Mathlib.Nat.{add-zero}
 use native.Mathlib.Numerals.{add-one}
 use native.Mathlib.Omega.{arith}
-use Prim.Native.Nat.{ℕ, zero, suc, _+_, _*_, _<_, _≤_}
+use Prim.Native.Nat.{ℕ, suc, _+_, _*_, _<_, _≤_}
 use lib.ListN.{length, getD, set, take, length-set}
 use lib.Dec.{ltb}
 use lib.Seq.{getD-set-same, getD-set-other, getD-take, take-suc, take-suc-set, take-set-le}
@@ -20,7 +20,7 @@ use Rattle.model.specs.Computed.{unorderedIn}
 use Rattle.race_search.specs.RaceList.{inConflict, isRace}
 use Rattle.race_search.specs.Rows.{bit, Cells, CellsBelow, PlacesBelow, ConflictsBelow, MarksAtMost}
 use Rattle.race_search.specs.Rows.{passing, raceRow, conflictAfter, conflictRow, RowHolds}
-use Rattle.race_search.proofs.RaceTests.{no-race-ahead, race-no-conflict, race-access}
+use Rattle.race_search.proofs.RaceTests.{race-no-conflict, race-access}
 use Rattle.race_search.proofs.RowLists.{passing-more, passing-same, passing-none, passing-at, passing-kept}
 use Rattle.race_search.proofs.RowLists.{keptOf, kept-one, kept-same, row-count, row-none}
 use Rattle.race_search.proofs.RowTests.{bit-few, bit-none, cells-apart}

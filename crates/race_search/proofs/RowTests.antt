@@ -13,7 +13,7 @@ use borrow.Author.Tests.{leb-true, le-leb, lt-leb, le-ltb, lt-ltb}
 use Rattle.runs.proofs.Booleans.{test-true, never-passes, less?}
 use Rattle.trace.specs.declared.Operation.{Operation}
 use Rattle.trace.specs.Reading.{reads, fileReading, traceOf}
-use Rattle.trace.specs.Trace.{Trace, size, operation, workerOf, isWrite, isAccess}
+use Rattle.trace.specs.Trace.{size, operation, workerOf, isWrite, isAccess}
 use Rattle.trace.proofs.Answered.{both}
 use Rattle.trace.proofs.Answers.{file-holds}
 use Rattle.model.specs.Computed.{mustPrecedeIn, unorderedIn}
@@ -26,7 +26,7 @@ use Rattle.race_search.proofs.TableEntries.{pair-back, first-inside, en
 
 -- ---- bits
 
-pub bit-and : (x y : Bool) → bitAnd (bit x) (bit y) ≡ bit (x && y)
+bit-and : (x y : Bool) → bitAnd (bit x) (bit y) ≡ bit (x && y)
 bit-and true true = refl
 bit-and true false = refl
 bit-and false true = refl

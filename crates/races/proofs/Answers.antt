@@ -1,10 +1,10 @@
 -- What the call answers and leaves in lent memory. In order: by the outcome of the questions; as the code comes to it;
 -- the races that an answer lists; the call's promise; what the answer says.
-use mathlib.Core.List.{List, [], _∷_, map}
+use mathlib.Core.List.{List}
 use mathlib.Core.Logic.{inl, inr, _↔_, Iff·trans}
-use mathlib.Core.Path.{_≡_, refl, sym, ap, _∙_}
+use mathlib.Core.Path.{_≡_, refl, sym, _∙_}
 use native.Mathlib.Omega.{arith}
-use Prim.Native.Nat.{ℕ, zero, suc, _<_, _≤_}
+use Prim.Native.Nat.{ℕ, _<_, _≤_}
 use lib.ListN.{length, take}
 use lib.Seq.{take-length}
 use borrow.Author.Tests.{le-leb, lt-leb}
@@ -24,7 +24,6 @@ use Rattle.order_table.proofs.Entries.{after-length, after-entry}
 use Rattle.order_table.proofs.Questions.{table-comes-out}
 use Rattle.race_search.specs.Premises.{HoldsTable}
 use Rattle.race_search.specs.RaceList.{raceList, raceCount}
-use Rattle.race_search.specs.declared.Race.{Race}
 use Rattle.races.specs.Premises.{Writable, AllWritten, tooMany, ListsCall}
 use Rattle.races.specs.Races.{lowerAfter, higherAfter, CountCall, RacesCall}
 use Rattle.races.specs.Races.{racesReading, answerOf, racesAnswer, listedBy, racesListed, toWrite, shorter}

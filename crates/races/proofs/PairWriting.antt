@@ -2,12 +2,11 @@
 -- written from a place of a list on; counting; writing; the end.
 use mathlib.Core.List.{List, [], _∷_, _++_, map, append-assoc}
 use mathlib.Core.Path.{_≡_, refl, sym, ap, _∙_}
-use native.Mathlib.Nat.{add-zero}
 use native.Mathlib.Numerals.{add-one}
 use native.Mathlib.Omega.{arith}
 use Prim.Native.Nat.{ℕ, zero, suc, _+_, _*_, _<_, _≤_}
-use lib.ListN.{length, getD, set, take, drop, replicate, length-map, length-append, length-replicate, getD-replicate}
-use lib.Seq.{paste, paste-zero, paste-suc, length-paste, length-take-le, drop-drop, take-all, take-length}
+use lib.ListN.{length, getD, set, take, replicate, length-map, length-replicate, getD-replicate}
+use lib.Seq.{paste, paste-zero, paste-suc, length-paste, drop-drop, take-all}
 use Rattle.trace.specs.Reading.{traceOf}
 use Rattle.trace.specs.Trace.{Trace, size}
 use Rattle.lent.proofs.Writing.{Written, written-none, written-part}
@@ -158,7 +157,7 @@ pasted-written {at} {count} {old} {now} new part w e f l =
 
 module _ {t : Trace} {a at : ℕ} {lower lower-now higher higher-now marks row : List ℕ}
     (w : RowsWritten t a at lower lower-now higher higher-now marks row) where
-  pub rows-at : at ≡ length (racesBelow t a)
+  rows-at : at ≡ length (racesBelow t a)
   rows-at = sym (w .low .place) ∙ length-map (racesBelow t a) (λ (r : Race). r .lower)
 
   -- a row more has room
