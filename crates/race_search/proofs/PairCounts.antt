@@ -7,7 +7,7 @@ use mathlib.Core.Path.{_≡_, refl, sym, ap, _∙_}
 use native.Mathlib.Numerals.{add-one}
 use native.Mathlib.Omega.{arith}
 use Prim.Native.Nat.{ℕ, zero, suc, _+_, _*_, _-_, _<_, _≤_}
-use lib.ListN.{length, getD, set, length-set, length-append}
+use lib.ListN.{length, getD, set, length-set}
 use lib.Seq.{getD-set-same, getD-set-other}
 use borrow.Author.Tests.{eq-eqb, ne-eqb, eqb-true, not-false}
 use Rattle.runs.proofs.Booleans.{equal?}
@@ -16,21 +16,10 @@ use Rattle.model.specs.Rule.{WorkersKnown}
 use Rattle.race_search.specs.RaceList.{isRace, racesBelow, raceCount}
 use Rattle.race_search.specs.Rows.{bit, passing, isOf, pairsBelow, pairCount}
 use Rattle.race_search.proofs.RaceTests.{race-same-worker, no-race-ahead}
-use Rattle.race_search.proofs.RowLists.{passing-more, passing-same, passing-end, below-start, below-count}
+use Rattle.race_search.proofs.RowLists.{passing-count, passing-zero, passing-end, below-start, below-count}
 use Rattle.race_search.proofs.RowLists.{below-all}
 
 -- ---- how many numbers pass a test
-
-passing-count : (f : ℕ → Bool) (k : ℕ) → length (passing f (suc k)) ≡ length (passing f k) + bit (f k)
-passing-count f k = go (f k) refl
-  where
-    go : (r : Bool) → f k ≡ r → length (passing f (suc k)) ≡ length (passing f k) + bit (f k)
-    go true e = rw (passing-more f k e, e) (length-append (passing f k) (k ∷ []))
-    go false e = rw (passing-same f k e, e) (omega arith)
-
-passing-zero : (f : ℕ → Bool) → length (passing f 0) ≡ 0
-unfolding passing
-passing-zero f = refl
 
 -- those that pass, and those that do not
 passing-split : (f : ℕ → Bool) (k : ℕ) → length (passing f k) + length (passing (λ a. not (f a)) k) ≡ k

@@ -11,7 +11,7 @@ use Rattle.runs.proofs.Booleans.{equal?, less?}
 use Rattle.trace.specs.Trace.{Trace, size}
 use Rattle.race_search.specs.declared.Race.{Race}
 use Rattle.race_search.specs.RaceList.{isRace, pair, racesOf, racesBelow, raceList, raceCount}
-use Rattle.race_search.specs.Rows.{passing, raceRow, RowHolds}
+use Rattle.race_search.specs.Rows.{bit, passing, raceRow, RowHolds}
 use Rattle.race_search.proofs.RaceTests.{no-race-ahead}
 
 -- ---- the numbers that pass a test
@@ -29,6 +29,18 @@ module _ (f : ℕ → Bool) where
   unfolding passing
   passing-none zero h = refl
   passing-none (suc b) h = passing-same b (h b (omega arith)) ∙ passing-none b (λ k l. h k (omega arith))
+
+  -- how many there are
+  pub passing-count : (k : ℕ) → length (passing f (suc k)) ≡ length (passing f k) + bit (f k)
+  passing-count k = go (f k) refl
+    where
+      go : (r : Bool) → f k ≡ r → length (passing f (suc k)) ≡ length (passing f k) + bit (f k)
+      go true e = rw (passing-more k e, e) (length-append (passing f k) (k ∷ []))
+      go false e = rw (passing-same k e, e) (omega arith)
+
+  pub passing-zero : length (passing f 0) ≡ 0
+  unfolding passing
+  passing-zero = refl
 
   -- none from b on and below c
   pub passing-end : (b c : ℕ) → b ≤ c → ((k : ℕ) → b ≤ k → f k ≡ false) → passing f c ≡ passing f b

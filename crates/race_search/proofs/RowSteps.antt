@@ -1,6 +1,5 @@
--- The loops over the arrays. In order: reading the cells; reading the workers and their entries; marking the operations
--- in conflict with a; listing those that pass a test; keeping those that race with a; where
--- there are none.
+-- The loops that list a row. In order: marking the operations in conflict with a; listing those that pass a test;
+-- keeping those that race with a; where there are none.
 use mathlib.Core.Bool.{Bool, true, false, _&&_, and-assoc}
 use mathlib.Core.List.{List, [], _∷_, _++_}
 use mathlib.Core.Logic.{inl, inr}
@@ -8,146 +7,70 @@ use mathlib.Core.Path.{_≡_, refl, sym, ap, _∙_}
 use native.Mathlib.Nat.{add-zero}
 use native.Mathlib.Numerals.{add-one}
 use native.Mathlib.Omega.{arith}
-use Prim.Native.Nat.{ℕ, suc, _+_, _*_, _<_, _≤_}
+use Prim.Native.Nat.{ℕ, suc, _+_, _<_, _≤_}
 use lib.ListN.{length, getD, set, take, length-set}
 use lib.Dec.{ltb}
 use lib.Seq.{getD-set-same, getD-set-other, getD-take, take-suc, take-suc-set, take-set-le}
 use borrow.Author.Tests.{ltb-true, lt-ltb, le-ltb}
 use Rattle.runs.proofs.Booleans.{equal?}
-use Rattle.trace.specs.Trace.{Trace, size, operation, workerOf}
+use Rattle.trace.specs.Trace.{Trace, size, operation}
 use Rattle.trace.proofs.Answered.{both}
 use Rattle.model.specs.Computed.{unorderedIn}
 use Rattle.race_search.specs.RaceList.{inConflict, isRace}
-use Rattle.race_search.specs.Rows.{bit, Cells, CellsBelow, PlacesBelow, ConflictsBelow, MarksAtMost}
+use Rattle.race_search.specs.Rows.{bit, Cells, ConflictsBelow}
 use Rattle.race_search.specs.Rows.{passing, raceRow, conflictAfter, conflictRow, RowHolds}
-use Rattle.race_search.proofs.RaceTests.{race-no-conflict, race-access}
-use Rattle.race_search.proofs.RowLists.{passing-more, passing-same, passing-none, passing-at, passing-kept}
-use Rattle.race_search.proofs.RowLists.{keptOf, kept-one, kept-same, row-count, row-none}
-use Rattle.race_search.proofs.RowTests.{bit-few, bit-none, cells-apart}
-
--- ---- reading the cells
-
--- the cells of the operations below k are read
-pub record CellsRead (t : Trace) (k : ℕ) (first last writes : List ℕ) : Type 0 where
-  pub first-long : length first ≡ 1024
-  pub last-long : length last ≡ 1024
-  pub writes-long : length writes ≡ 1024
-  pub cells : CellsBelow t k first last writes
-
-module _ {t : Trace} {first last writes : List ℕ} where
-  pub cells-start : length first ≡ 1024 → length last ≡ 1024 → length writes ≡ 1024
-      → CellsRead t 0 first last writes
-  cells-start e f g =
-      record {
-        first-long = e;
-        last-long = f;
-        writes-long = g;
-        cells = record { each = λ k l. absurd (omega arith) };
-      }
-
-  module _ {k : ℕ} (r : CellsRead t k first last writes) where
-    pub cells-more : {x y z : ℕ} → k < 1024 → Cells (operation t k) x y z
-        → CellsRead t (k + 1) (set first k x) (set last k y) (set writes k z)
-    cells-more {x} {y} {z} l c =
-        record {
-          first-long = simp length-set (r .first-long);
-          last-long = simp length-set (r .last-long);
-          writes-long = simp length-set (r .writes-long);
-          cells = record { each = each };
-        }
-      where
-        each : (j : ℕ) → j < k + 1
-            → Cells (operation t j) (getD (set first k x) j 0) (getD (set last k y) j 0) (getD (set writes k z) j 0)
-        each j i = elim (equal? j k) [
-          | inl e ↦
-              rw (
-                e,
-                getD-set-same first k x 0 (omega (arith, r .first-long)),
-                getD-set-same last k y 0 (omega (arith, r .last-long)),
-                getD-set-same writes k z 0 (omega (arith, r .writes-long)),
-              ) c
-          | inr d ↦
-              rw (
-                getD-set-other first k j x 0 d,
-                getD-set-other last k j y 0 d,
-                getD-set-other writes k j z 0 d,
-              ) (r .cells .each j (omega (arith, d)))
-        ]
-
-    pub cells-end : {n : ℕ} → n ≤ k → CellsBelow t n first last writes
-    cells-end l = record { each = λ j i. r .cells .each j (omega arith) }
-
--- ---- reading the workers and their entries
-
--- those of the operations below k are read
-pub record PlacesRead (t : Trace) (k : ℕ) (table workers own : List ℕ) : Type 0 where
-  pub workers-long : length workers ≡ 1024
-  pub own-long : length own ≡ 1024
-  pub places : PlacesBelow t k table workers own
-
-module _ {t : Trace} {table workers own : List ℕ} where
-  pub places-start : length workers ≡ 1024 → length own ≡ 1024 → PlacesRead t 0 table workers own
-  places-start e f =
-      record {
-        workers-long = e;
-        own-long = f;
-        places = record { worker = λ k l. absurd (omega arith); entry = λ k l. absurd (omega arith) };
-      }
-
-  module _ {k : ℕ} (r : PlacesRead t k table workers own) where
-    pub places-more : {p q i : ℕ} → k < 1024 → p ≡ t .workers → q ≡ workerOf t k → i ≡ q
-        → PlacesRead t (k + 1) table (set workers k q) (set own k (getD table (k * p + i) 0))
-    places-more {p} {q} {i} l e f g =
-        record {
-          workers-long = simp length-set (r .workers-long);
-          own-long = simp length-set (r .own-long);
-          places = record { worker = worker; entry = entry };
-        }
-      where
-        worker : (j : ℕ) → j < k + 1 → getD (set workers k q) j 0 ≡ workerOf t j
-        worker j h = elim (equal? j k) [
-          | inl z ↦ rw (z, getD-set-same workers k q 0 (omega (arith, r .workers-long))) f
-          | inr d ↦ rw (getD-set-other workers k j q 0 d) (r .places .worker j (omega (arith, d)))
-        ]
-
-        own-entry : ℕ
-        own-entry = getD table (k * p + i) 0
-
-        entry : (j : ℕ) → j < k + 1 → getD (set own k own-entry) j 0 ≡ getD table (j * t .workers + workerOf t j) 0
-        entry j h = elim (equal? j k) [
-          | inl z ↦ rw (z, getD-set-same own k own-entry 0 (omega (arith, r .own-long)), e, g, f)
-          | inr d ↦ rw (getD-set-other own k j own-entry 0 d) (r .places .entry j (omega (arith, d)))
-        ]
-
-    pub places-end : {n : ℕ} → n ≤ k → PlacesBelow t n table workers own
-    places-end l =
-        record { worker = λ j i. r .places .worker j (omega arith); entry = λ j i. r .places .entry j (omega arith) }
+use Rattle.race_search.proofs.RaceTests.{race-access}
+use Rattle.race_search.proofs.RowLists.{passing-more, passing-same, passing-none, passing-count, passing-at}
+use Rattle.race_search.proofs.RowLists.{passing-kept, keptOf, kept-one, kept-same, row-count, row-none}
+use Rattle.race_search.proofs.RowTests.{bit-few, cells-apart}
 
 -- ---- marking the operations in conflict with a
+
+-- none up to a is after it
+pub conflict-ahead : (t : Trace) (a k : ℕ) → k ≤ a → conflictAfter t a k ≡ false
+unfolding conflictAfter
+conflict-ahead t a k l = rw (le-ltb a k l)
+
+pub conflict-mark : (t : Trace) {a b mark : ℕ} → a < b → mark ≡ bit (inConflict (operation t a) (operation t b))
+    → mark ≡ bit (conflictAfter t a b)
+unfolding conflictAfter
+conflict-mark t {a} {b} l e = e ∙ rw (lt-ltb a b l)
+
+-- one that is not in conflict with a does not race with it
+conflict-none : (t : Trace) (a b : ℕ) → conflictAfter t a b ≡ false → isRace t a b ≡ false
+unfolding conflictAfter isRace
+conflict-none t a b e =
+    sym (and-assoc (ltb a b) (inConflict (operation t a) (operation t b)) (unorderedIn t a b))
+    ∙ ap (λ (r : Bool). r && unorderedIn t a b) e
 
 -- those below b are marked
 pub record Marked (t : Trace) (a b : ℕ) (marks : List ℕ) (count : ℕ) : Type 0 where
   pub few : count + a < b
+  pub below : b ≤ size t
   pub conflicts : ConflictsBelow t a b marks
-  pub most : MarksAtMost a b marks count
+  pub counts : count ≡ length (passing (conflictAfter t a) b)
 
 module _ {t : Trace} {a : ℕ} {marks : List ℕ} where
-  pub mark-start : length marks ≡ 1024 → Marked t a (a + 1) marks 0
-  mark-start e =
+  pub mark-start : length marks ≡ 1024 → a < size t → Marked t a (a + 1) marks 0
+  mark-start e l =
       record {
         few = omega arith;
+        below = omega arith;
         conflicts = record { long = e; marked = λ b i j. absurd (omega arith) };
-        most = record { most = λ b i j. absurd (omega arith) };
+        counts =
+            sym (ap length (passing-none (conflictAfter t a) (a + 1) (λ k i. conflict-ahead t a k (omega arith))));
       }
 
   module _ {b count : ℕ} (m : Marked t a b marks count) where
-    pub mark-more : {mark wide : ℕ} → b < 1024 → mark ≡ bit (inConflict (operation t a) (operation t b)) → wide ≡ mark
+    pub mark-more : {mark wide : ℕ} → size t ≤ 1024 → b < size t
+        → mark ≡ bit (inConflict (operation t a) (operation t b)) → wide ≡ mark
         → Marked t a (b + 1) (set marks b mark) (count + wide)
-    mark-more {mark} {wide} l e f =
+    mark-more {mark} {wide} s l e f =
         record {
           few = omega (arith, m .few, e, f, bit-few (inConflict (operation t a) (operation t b)));
           conflicts = record { long = simp length-set (m .conflicts .long); marked = marked };
-          most = record { most = most };
+          below = omega arith;
+          counts = rw add-one (omega (arith, m .counts, passing-count (conflictAfter t a) b, f, after));
         }
       where
         here : getD (set marks b mark) b 0 ≡ mark
@@ -160,17 +83,13 @@ module _ {t : Trace} {a : ℕ} {marks : List ℕ} where
           | inr d ↦ rw (getD-set-other marks b k mark 0 d) (m .conflicts .marked k i (omega (arith, d)))
         ]
 
-        most : (k : ℕ) → a < k → k < b + 1 → getD (set marks b mark) k 0 ≤ count + wide
-        most k i j = elim (equal? k b) [
-          | inl z ↦ rw (z, here) (omega (arith, f))
-          | inr d ↦ rw (getD-set-other marks b k mark 0 d) (omega (arith, m .most .most k i (omega (arith, d))))
-        ]
+        after : mark ≡ bit (conflictAfter t a b)
+        after = conflict-mark t (omega (arith, m .few)) e
 
-    pub mark-end : {n : ℕ} → n ≤ b → ConflictsBelow t a n marks × MarksAtMost a n marks count
-    mark-end l = (
-      record { long = m .conflicts .long; marked = λ k i j. m .conflicts .marked k i (omega arith) },
-      record { most = λ k i j. m .most .most k i (omega arith) },
-    )
+    pub mark-end : size t ≤ b → ConflictsBelow t a (size t) marks × (count ≡ length (conflictRow t a))
+    mark-end l =
+        let e : b ≡ size t = omega (arith, m .below) in
+        (rw e at (m .conflicts), rw e at (m .counts))
 
 -- ---- listing those that pass a test
 
@@ -215,23 +134,6 @@ module _ (f : ℕ → Bool) {n a : ℕ} {row : List ℕ} where
         record { long = r .long; few = omega (arith, r .few, r .below); front = rw e at (r .front) }
 
 -- ---- keeping those that race with a
-
--- none up to a is after it
-pub conflict-ahead : (t : Trace) (a k : ℕ) → k ≤ a → conflictAfter t a k ≡ false
-unfolding conflictAfter
-conflict-ahead t a k l = rw (le-ltb a k l)
-
-pub conflict-mark : (t : Trace) {a b mark : ℕ} → a < b → mark ≡ bit (inConflict (operation t a) (operation t b))
-    → mark ≡ bit (conflictAfter t a b)
-unfolding conflictAfter
-conflict-mark t {a} {b} l e = e ∙ rw (lt-ltb a b l)
-
--- one that is not in conflict with a does not race with it
-conflict-none : (t : Trace) (a b : ℕ) → conflictAfter t a b ≡ false → isRace t a b ≡ false
-unfolding conflictAfter isRace
-conflict-none t a b e =
-    sym (and-assoc (ltb a b) (inConflict (operation t a) (operation t b)) (unorderedIn t a b))
-    ∙ ap (λ (r : Bool). r && unorderedIn t a b) e
 
 -- a listed operation is after a, and in conflict with it
 pub record InConflict (t : Trace) (a b : ℕ) : Type 0 where
@@ -340,7 +242,14 @@ module _ (t : Trace) (a : ℕ) {row : List ℕ} (e : length row ≡ 1024) where
   row-no-access c l = row-empty (λ b i j. race-access t a b (cells-apart c l))
 
   -- no other is in conflict with it
-  pub row-no-conflict : {marks : List ℕ} {count : ℕ} → ConflictsBelow t a (size t) marks
-      → MarksAtMost a (size t) marks count → count < 1 → RowHolds (raceRow t a) 0 row
-  row-no-conflict c m l = row-empty (λ b i j. race-no-conflict t a b
-      (bit-none (inConflict (operation t a) (operation t b)) (omega (arith, c .marked b i j, m .most b i j))))
+  pub row-no-conflict : {count : ℕ} → count ≡ length (conflictRow t a) → count < 1 → RowHolds (raceRow t a) 0 row
+  row-no-conflict i l = record { long = e; few = omega arith; front = sym none }
+    where
+      no-length : (l : List ℕ) → length l < 1 → l ≡ []
+      no-length [] h = refl
+      no-length (x ∷ l) h = absurd (omega (arith, h))
+
+      none : raceRow t a ≡ []
+      none =
+          sym (passing-kept (conflictAfter t a) (isRace t a) (conflict-none t a) (size t))
+          ∙ ap (λ (r : List ℕ). keptOf (isRace t a) r) (no-length (conflictRow t a) (omega (arith, i, l)))

@@ -42,10 +42,6 @@ pub bit-few : (x : Bool) → bit x ≤ 1
 bit-few true = omega arith
 bit-few false = omega arith
 
-pub bit-none : (x : Bool) → bit x ≡ 0 → x ≡ false
-bit-none true e = absurd (omega arith)
-bit-none false e = refl
-
 -- not at most is above
 above-leb : (x y : ℕ) → ltb y x ≡ not (leb x y)
 above-leb x y = elim (less? y x) [

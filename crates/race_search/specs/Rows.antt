@@ -70,10 +70,6 @@ pub record ConflictsBelow (t : Trace) (a n : ℕ) (marks : List ℕ) : Type 0 wh
   pub long : length marks ≡ 1024
   pub marked : (b : ℕ) → a < b → b < n → getD marks b 0 ≡ bit (inConflict (operation t a) (operation t b))
 
--- no mark there is above `count`, so that there is none where it is 0
-pub record MarksAtMost (a n : ℕ) (marks : List ℕ) (count : ℕ) : Type 0 where
-  pub most : (b : ℕ) → a < b → b < n → getD marks b 0 ≤ count
-
 -- operation a of a file that reads as a trace, the marks of those after it, and an array for 1,024 operations
 pub record MarkedRow (bytes : List ℕ) (a : ℕ) (marks row : List ℕ) : Type 0 where
   pub trace : fileReading bytes ≡ reads (traceOf bytes)

@@ -12,7 +12,7 @@ ghost use Rattle.race_search.specs.Intervals.{overlap};
 ghost use Rattle.race_search.specs.Premises.{HoldsTable, Inside, PairInTable, LowestHigher, Resumes};
 ghost use Rattle.race_search.specs.RaceList.{inConflict, isRace, nextRace};
 ghost use Rattle.race_search.specs.Rows.{firstCell, lastCell, CellsFit, ReadsCells, CellsBelow, ReadsPlaces};
-ghost use Rattle.race_search.specs.Rows.{PlacesBelow, conflictBit, RowOfCells, ConflictsBelow, MarksAtMost};
+ghost use Rattle.race_search.specs.Rows.{PlacesBelow, conflictBit, RowOfCells, ConflictsBelow};
 ghost use Rattle.race_search.specs.Rows.{unorderedBit, RowOfTable, MarkedRow, conflictRow, raceRow, RowHolds};
 ghost use Rattle.race_search.specs.Rows.{pairCount};
 use trace::Operation;
@@ -241,7 +241,7 @@ fn mark_conflicts(
     requires { ⌜ RowOfCells (now file) (now first) (now last) (now writes) a × (length (now marks) ≡ 1024) ⌝ }
     ensures { λ r. ⌜ ConflictsBelow (traceOf (now (file .entry))) a (size (traceOf (now (file .entry))))
         (now (marks .exit))
-        × MarksAtMost a (size (traceOf (now (file .entry)))) (now (marks .exit)) r ⌝ }
+        × (r ≡ length (conflictRow (traceOf (now (file .entry))) a)) ⌝ }
 {
     let n = trace::operation_count(file) as usize;
     let x = first[a];

@@ -39,8 +39,8 @@ returns-2 : tie.Need-returns-2
 returns-2 c =
     let c1 = c .before in
     let c8 = c1 .before .before .before .before .before .before .before in
-    let (conflicts, most) = c1 .mark-conflicts .ensures in
-    (row-no-conflict _ _ (c8 .pre .3) conflicts most (c .if2 .taken), conflicts .long)
+    let (conflicts, count) = c1 .mark-conflicts .ensures in
+    (row-no-conflict _ _ (c8 .pre .3) count (c .if2 .taken), conflicts .long)
 
 operation-count-requires : tie.Need-operation-count-requires
 operation-count-requires c κs = search needs

@@ -53,8 +53,8 @@ add-b c =
 
 loop-holds : tie.Need-loop-holds Inv-loop μ-loop
 loop-holds c =
-    let c5 = c .before .before .before .before .before in
-    mark-start (c5 .pre .1)
+    let pre = c .before .before .before .before .before .pre in
+    mark-start (pre .1) (pre .0 .inside)
 
 mul-conflict-bit : tie.Need-mul-conflict-bit Inv-loop μ-loop
 mul-conflict-bit c =
@@ -133,7 +133,7 @@ loop-again c =
     let cells = c12 .pre .0 .cells .each in
     let below = c5 .loop-test .taken in
     let size = c10 .operation-count .ensures in
-    mark-more (c6 .loop .inv) (omega (arith, file-few _ (c12 .pre .0 .trace), size, below))
+    mark-more (c6 .loop .inv) (file-few _ (c12 .pre .0 .trace)) (omega (arith, size, below))
     (c1 .conflict-bit .ensures ∙ cells-conflict (cells _ (c12 .pre .0 .inside)) (cells _ (omega (arith, size, below))))
     (c .wide16 .ensures .0)
 

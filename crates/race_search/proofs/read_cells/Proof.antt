@@ -3,7 +3,7 @@ use native.Mathlib.Omega.{arith}
 use Prim.Native.Nat.{_-_}
 use borrow.Author.Needs.{needs}
 use Rattle.trace.specs.Reading.{traceOf}
-use Rattle.race_search.proofs.RowSteps.{CellsRead, cells-start, cells-more, cells-end}
+use Rattle.race_search.proofs.ArrayReading.{CellsRead, cells-start, cells-more, cells-end}
 use Rattle.race_search.proofs.RowTests.{file-few, operation-fits, operation-cells}
 use Rattle.race_search.proofs.read_cells.Statement.{statement}
 use Rattle.race_search.proofs.read_cells.Tie as tie

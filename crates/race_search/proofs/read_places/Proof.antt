@@ -5,7 +5,7 @@ use Prim.Native.Nat.{_-_}
 use borrow.Author.Needs.{needs}
 use Rattle.trace.specs.Reading.{traceOf}
 use Rattle.race_search.specs.Premises.{Inside}
-use Rattle.race_search.proofs.RowSteps.{PlacesRead, places-start, places-more, places-end}
+use Rattle.race_search.proofs.ArrayReading.{PlacesRead, places-start, places-more, places-end}
 use Rattle.race_search.proofs.TableEntries.{table-reads, table-short, own-inside}
 use Rattle.race_search.proofs.read_places.Statement.{statement}
 use Rattle.race_search.proofs.read_places.Tie as tie
