@@ -141,11 +141,11 @@ fn wide(x: u8) -> usize
     x as usize
 }
 
-// The same as a 16-bit number.
-fn wide16(x: u8) -> u16
-    ensures { λ r. ⌜ (r ≡ x) × (r < 256) ⌝ }
+// A 32-bit number as an index.
+fn wide32(x: u32) -> usize
+    ensures { λ r. ⌜ (r ≡ x) × (r < 4294967296) ⌝ }
 {
-    x as u16
+    x as usize
 }
 
 // An operation's number as an index.
@@ -181,7 +181,7 @@ pub fn read_cells(
     file: &[u8],
     first: &mut [u32; 1024],
     last: &mut [u32; 1024],
-    writes: &mut [u8; 1024],
+    writes: &mut [u32; 1024],
 )
     requires { ⌜ ReadsCells (now file) (now first) (now last) (now writes) ⌝ }
     ensures { λ r. ⌜ CellsBelow (traceOf (now (file .entry))) (size (traceOf (now (file .entry)))) (now (first .exit))
@@ -193,7 +193,7 @@ pub fn read_cells(
         let o = trace::operation_of(file, k);
         first[k] = first_cell(o);
         last[k] = last_cell(o);
-        writes[k] = (o.kind == 4) as u8;
+        writes[k] = (o.kind == 4) as u32;
         k += 1;
     }
 }
@@ -219,14 +219,14 @@ pub fn read_places(file: &[u8], table: &[u16], workers: &mut [u8; 1024], own: &m
 fn conflict_bit(
     first: u32,
     last: u32,
-    writes: u8,
+    writes: u32,
     other_first: u32,
     other_last: u32,
-    other_writes: u8,
-) -> u8
+    other_writes: u32,
+) -> u32
     ensures { λ r. ⌜ r ≡ conflictBit first last writes «other_first» «other_last» «other_writes» ⌝ }
 {
-    (writes | other_writes) & ((first <= other_last) as u8) & ((other_first <= last) as u8)
+    (writes | other_writes) & ((first <= other_last) as u32) & ((other_first <= last) as u32)
 }
 
 // Marks the operations after a that are in conflict with it, and answers how many there are.
@@ -234,10 +234,10 @@ fn mark_conflicts(
     file: &[u8],
     first: &[u32; 1024],
     last: &[u32; 1024],
-    writes: &[u8; 1024],
+    writes: &[u32; 1024],
     a: usize,
-    marks: &mut [u8; 1024],
-) -> u16
+    marks: &mut [u32; 1024],
+) -> u32
     requires { ⌜ RowOfCells (now file) (now first) (now last) (now writes) a × (length (now marks) ≡ 1024) ⌝ }
     ensures { λ r. ⌜ ConflictsBelow (traceOf (now (file .entry))) a (size (traceOf (now (file .entry))))
         (now (marks .exit))
@@ -247,12 +247,12 @@ fn mark_conflicts(
     let x = first[a];
     let y = last[a];
     let w = writes[a];
-    let mut count: u16 = 0;
+    let mut count: u32 = 0;
     let mut b = a + 1;
     while b < n {
         let mark = conflict_bit(x, y, w, first[b], last[b], writes[b]);
         marks[b] = mark;
-        count += wide16(mark);
+        count += mark;
         b += 1;
     }
     count
@@ -269,11 +269,11 @@ fn unordered_bit(
     b: usize,
     q: usize,
     own_b: u16,
-) -> u8
+) -> u32
     requires { ⌜ Inside (now table) p a q × Inside (now table) p b w ⌝ }
     ensures { λ r. ⌜ r ≡ unorderedBit (now (table .entry)) p a w «own_a» b q «own_b» ⌝ }
 {
-    ((own_b < table[a * p + q]) as u8) & ((own_a < table[b * p + w]) as u8)
+    ((own_b < table[a * p + q]) as u32) & ((own_a < table[b * p + w]) as u32)
 }
 
 // Lists those of the marked operations that are unordered with a.
@@ -283,7 +283,7 @@ fn list_unordered(
     workers: &[u8; 1024],
     own: &[u16; 1024],
     a: usize,
-    marks: &[u8; 1024],
+    marks: &[u32; 1024],
     row: &mut [u16; 1024],
 ) -> usize
     requires { ⌜ RowOfTable (now file) (now table) (now workers) (now own) a
@@ -299,14 +299,14 @@ fn list_unordered(
     while b < n {
         let free = unordered_bit(table, p, a, w, own_a, b, wide(workers[b]), own[b]);
         row[count] = b as u16;
-        count += wide(marks[b] & free);
+        count += wide32(marks[b] & free);
         b += 1;
     }
     count
 }
 
 // Lists the marked operations, and answers how many there are.
-fn list_marked(file: &[u8], a: usize, marks: &[u8; 1024], row: &mut [u16; 1024]) -> usize
+fn list_marked(file: &[u8], a: usize, marks: &[u32; 1024], row: &mut [u16; 1024]) -> usize
     requires { ⌜ MarkedRow (now file) a (now marks) (now row) ⌝ }
     ensures { λ r. ⌜ RowHolds (conflictRow (traceOf (now (file .entry))) a) r (now (row .exit)) ⌝ }
 {
@@ -315,7 +315,7 @@ fn list_marked(file: &[u8], a: usize, marks: &[u8; 1024], row: &mut [u16; 1024])
     let mut b = a + 1;
     while b < n {
         row[count] = b as u16;
-        count += wide(marks[b]);
+        count += wide32(marks[b]);
         b += 1;
     }
     count
@@ -345,7 +345,7 @@ fn keep_unordered(
         let b = index(x);
         let free = unordered_bit(table, p, a, w, own_a, b, wide(workers[b]), own[b]);
         row[kept] = x;
-        kept += wide(free);
+        kept += wide32(free);
         i += 1;
     }
     kept
@@ -357,11 +357,11 @@ pub fn list_row(
     table: &[u16],
     first: &[u32; 1024],
     last: &[u32; 1024],
-    writes: &[u8; 1024],
+    writes: &[u32; 1024],
     workers: &[u8; 1024],
     own: &[u16; 1024],
     a: usize,
-    marks: &mut [u8; 1024],
+    marks: &mut [u32; 1024],
     row: &mut [u16; 1024],
 ) -> usize
     requires { ⌜ RowOfCells (now file) (now first) (now last) (now writes) a
@@ -379,7 +379,7 @@ pub fn list_row(
         return 0;
     }
     let n = trace::operation_count(file) as usize;
-    if 3 * index(count) < 2 * (n - a) {
+    if 3 * wide32(count) < 2 * (n - a) {
         let listed = list_marked(file, a, marks, row);
         return keep_unordered(file, table, workers, own, a, listed, row);
     }

@@ -117,15 +117,15 @@ element-write-row c =
     let c14 = c7 .before .before .before .before .before .before .before in
     omega (arith, c6 .loop-test .taken, c7 .loop .inv .few, c14 .pre .1 .few)
 
-wide-requires-3 : tie.Need-wide-requires-3 Inv-loop μ-loop
-wide-requires-3 c κs = search needs
+wide32-requires : tie.Need-wide32-requires Inv-loop μ-loop
+wide32-requires c κs = search needs
 
 add-kept : tie.Need-add-kept Inv-loop μ-loop
 add-kept c =
     let c7 = c .before .before .before .before .before .before .before in
     let c8 = c7 .before in
     let c15 = c8 .before .before .before .before .before .before .before in
-    omega (arith, c7 .loop-test .taken, c8 .loop .inv .few, c15 .pre .1 .few, c .wide3 .ensures .1)
+    omega (arith, c7 .loop-test .taken, c8 .loop .inv .few, c15 .pre .1 .few, c .wide32 .ensures .1)
 
 add-i : tie.Need-add-i Inv-loop μ-loop
 add-i c = search needs
@@ -149,7 +149,7 @@ loop-again c =
     let free =
     row-free (c15 .pre .0) (here .after) (here .below) (c12 .worker-count .ensures) (c10 .wide .ensures .0)
     (c3 .wide2 .ensures .0) (here .conflict) (c1 .unordered-bit .ensures) in
-    kept-more (c8 .loop .inv) taken e (c .wide3 .ensures .0 ∙ free)
+    kept-more (c8 .loop .inv) taken e (c .wide32 .ensures .0 ∙ free)
 
 returns : tie.Need-returns Inv-loop μ-loop
 returns c = kept-end (c .before .loop .inv) (c .loop-test .left)
@@ -177,7 +177,7 @@ keep-unordered-spec =
     unordered-bit-requires
     mul-row
     element-write-row
-    wide-requires-3
+    wide32-requires
     add-kept
     add-i
     loop-less

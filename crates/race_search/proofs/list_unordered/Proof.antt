@@ -126,15 +126,22 @@ element-write-row c =
     omega
     (arith, table-short (c13 .pre .0 .holds), c9 .operation-count .ensures, c4 .loop-test .taken, c5 .loop .inv .few)
 
-element-copy-out-wide-3 : tie.Need-element-copy-out-wide-3 Inv-loop μ-loop
-element-copy-out-wide-3 c =
+mul-wide32 : tie.Need-mul-wide32 Inv-loop μ-loop
+mul-wide32 c =
     let c4 = c .before .before .before .before in
     let c9 = c4 .before .before .before .before .before in
     let c13 = c9 .before .before .before .before in
     omega (arith, table-short (c13 .pre .0 .holds), c9 .operation-count .ensures, c4 .loop-test .taken)
 
-wide-requires-3 : tie.Need-wide-requires-3 Inv-loop μ-loop
-wide-requires-3 c κs = search needs
+element-copy-out-wide32 : tie.Need-element-copy-out-wide32 Inv-loop μ-loop
+element-copy-out-wide32 c =
+    let c4 = c .before .before .before .before in
+    let c9 = c4 .before .before .before .before .before in
+    let c13 = c9 .before .before .before .before in
+    omega (arith, table-short (c13 .pre .0 .holds), c9 .operation-count .ensures, c4 .loop-test .taken)
+
+wide32-requires : tie.Need-wide32-requires Inv-loop μ-loop
+wide32-requires c κs = search needs
 
 add-count : tie.Need-add-count Inv-loop μ-loop
 add-count c =
@@ -148,7 +155,7 @@ add-count c =
       c11 .operation-count .ensures,
       c6 .loop-test .taken,
       c7 .loop .inv .few,
-      c .wide3 .ensures .1,
+      c .wide32 .ensures .1,
     )
 
 add-b-2 : tie.Need-add-b-2 Inv-loop μ-loop
@@ -172,7 +179,7 @@ loop-again c =
     let ahead = c7 .loop .inv .few in
     let below = c6 .loop-test .taken in
     list-more _ (c7 .loop .inv) (table-short (row .holds)) (omega (arith, size, below))
-    (c .wide3 .ensures .0 ∙ row-race row (omega (arith, ahead)) (omega (arith, size, below))
+    (c .wide32 .ensures .0 ∙ row-race row (omega (arith, ahead)) (omega (arith, size, below))
     (c12 .worker-count .ensures) (c9 .wide .ensures .0) (c4 .wide2 .ensures .0)
     (marks .conflicts .marked _ (omega (arith, ahead)) (omega (arith, size, below))) (c2 .unordered-bit .ensures))
 
@@ -208,8 +215,9 @@ list-unordered-spec =
     cast-row
     mul-row
     element-write-row
-    element-copy-out-wide-3
-    wide-requires-3
+    mul-wide32
+    element-copy-out-wide32
+    wide32-requires
     add-count
     add-b-2
     loop-less

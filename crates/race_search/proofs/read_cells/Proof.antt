@@ -74,6 +74,13 @@ element-write-last c =
 cast-writes : tie.Need-cast-writes Inv-loop μ-loop
 cast-writes c = search needs
 
+mul-writes : tie.Need-mul-writes Inv-loop μ-loop
+mul-writes c =
+    let c4 = c .before .before .before .before in
+    let c6 = c4 .before .before in
+    let c8 = c6 .before .before in
+    omega (arith, file-few _ (c8 .pre .trace), c6 .operation-count .ensures, c4 .loop-test .taken)
+
 element-write-writes : tie.Need-element-write-writes Inv-loop μ-loop
 element-write-writes c =
     let c4 = c .before .before .before .before in
@@ -125,6 +132,7 @@ read-cells-spec =
     mul-last
     element-write-last
     cast-writes
+    mul-writes
     element-write-writes
     add-k
     loop-less
