@@ -5,7 +5,7 @@
 -- specs/RaceList.
 use mathlib.Core.Bool.{Bool, cond, not, _&&_}
 use mathlib.Core.List.{List, [], _∷_, _++_}
-use mathlib.Core.Path.{_≡_}
+use mathlib.Core.Path.{_≡_, refl}
 use Prim.Native.Nat.{ℕ, zero, suc, _+_, _*_, _-_, _<_, _≤_}
 use lib.Bits.{bitAnd, bitOr}
 use lib.Dec.{T, leb, ltb, eqb}
@@ -108,6 +108,11 @@ pub record RowOfTable (bytes table workers own : List ℕ) (a : ℕ) : Type 0 wh
 unfoldable pub passing : (ℕ → Bool) → ℕ → List ℕ
 passing f zero = []
 passing f (suc b) = passing f b ++ cond (f b) (b ∷ []) []
+
+-- of the numbers below 4, those above 1
+pub worked : passing (ltb 1) 4 ≡ 2 ∷ 3 ∷ []
+unfolding passing
+worked = refl
 
 -- the higher operations of the races whose lower one is a
 abbrev pub raceRow : Trace → ℕ → List ℕ
