@@ -1,4 +1,4 @@
--- From race to race. In order: the race that follows; counting along; looking for it in a row, and row by row.
+-- From race to race. In order: the race that follows; looking for it in a row, and row by row.
 use mathlib.Core.Bool.{true, false}
 use mathlib.Core.Logic.{_⊎_, inl, inr}
 use mathlib.Core.Path.{_≡_, refl, sym, ap, _∙_}
@@ -37,47 +37,6 @@ module _ (t : Trace) where
   pub next-race-from : (r : Race) → raceAt t (length (racesBefore t (r .lower) (r .higher + 1))) ≡ nextRace t r
   unfolding nextRace
   next-race-from r = rw add-one
-
-  -- ---- counting
-
-  -- `count` races are counted, and race `count` is reached
-  pub record Reached (race : Race) (count : ℕ) : Type 0 where
-    pub enough : count ≤ raceCount t
-    pub at : race ≡ raceAt t count
-
-  pub reached-first : {race : Race} → race ≡ nextRace t (pair 0 0) → Reached race 0
-  reached-first e = record { enough = omega arith; at = e ∙ next-race-at 0 (omega arith) }
-
-  module _ {race : Race} {count : ℕ} (r : Reached race count) where
-    -- it is there exactly if its lower operation is
-    pub reached-inside : race .lower < size t → count < raceCount t
-    reached-inside l = elim (less? count (raceCount t)) [ inl h ↦ h | inr h ↦ absurd (omega (arith, l, outside h)) ]
-      where
-        outside : raceCount t ≤ count → race .lower ≡ size t
-        outside h =
-            let none = r .at ∙ List·getD-eq-default (raceList t) (noRace t) h in
-            ap (λ (x : Race). x .lower) none
-
-    pub reached-end : size t ≤ race .lower → count ≡ raceCount t
-    reached-end l = elim (less? count (raceCount t)) [
-      | inl h ↦ absurd (inside h)
-      | inr h ↦ omega (arith, h, r .enough)
-    ]
-      where
-        inside : count < raceCount t → ⊥
-        inside h =
-            let below = race-operations count h in
-            let lower : race .lower ≡ raceAt t count .lower = ap (λ (x : Race). x .lower) (r .at) in
-            omega (arith, below .0, below .1, lower, l)
-
-    pub reached-ascending : race .lower < size t → race .lower ≤ race .higher
-    reached-ascending l = rw (r .at) (omega (arith, race-operations count (reached-inside l) .0))
-
-    pub reached-next : {next : Race} → race .lower < size t → next ≡ nextRace t race → Reached next (count + 1)
-    reached-next {next} l e = record { enough = omega (arith, reached-inside l); at = at }
-      where
-        at : next ≡ raceAt t (count + 1)
-        at = rw add-one (e ∙ rw (r .at) (next-race-at (suc count) (reached-inside l)))
 
   -- ---- looking for it in a row
 

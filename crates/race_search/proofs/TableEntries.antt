@@ -6,7 +6,7 @@ use native.Mathlib.Nat.{suc-mul, mul-le-mul, mul-le-mul-right}
 use native.Mathlib.Omega.{arith}
 use Prim.Native.Nat.{ℕ, suc, _+_, _*_, _<_, _≤_}
 use lib.Dec.{leb}
-use lib.ListN.{length, getD}
+use lib.ListN.{getD}
 use Rattle.trace.specs.Premises.{HoldsTrace}
 use Rattle.trace.specs.Reading.{reads, fileReading, traceOf}
 use Rattle.trace.specs.Trace.{size, workerOf}
@@ -14,7 +14,7 @@ use Rattle.trace.proofs.Answers.{few-numbers}
 use Rattle.model.specs.Computed.{row, mustPrecedeIn}
 use Rattle.model.proofs.TableRows.{rows-must-precede}
 use Rattle.accept.proofs.Questions.{accepted-reads, accepted-holds, accepted-workers, accepted-run}
-use Rattle.race_search.specs.Premises.{HoldsTable, PairInTable}
+use Rattle.race_search.specs.Premises.{HoldsTable, Inside, PairInTable}
 use Rattle.race_search.specs.RaceList.{raceCount}
 use Rattle.race_search.proofs.RaceLists.{list-few}
 
@@ -25,6 +25,10 @@ table-reads h = accepted-reads (h .accepted)
 pub table-holds : {bytes table : List ℕ} {p n : ℕ} → HoldsTable bytes table → p ≡ traceOf bytes .workers
     → n ≡ size (traceOf bytes) → HoldsTrace bytes p n
 table-holds h e i = rw (e, i) (accepted-holds (h .accepted))
+
+-- there are at most 1,024 operations
+pub table-short : {bytes table : List ℕ} → HoldsTable bytes table → size (traceOf bytes) ≤ 1024
+table-short h = accepted-holds (h .accepted) .few
 
 -- there are at most 1,024 × 1,024 races
 pub table-few : {bytes table : List ℕ} → HoldsTable bytes table → raceCount (traceOf bytes) ≤ 1048576
@@ -54,12 +58,6 @@ pair-back r =
       differ = λ e. r .differ (sym e);
     }
 
--- where entry q of row k stands, in a table that holds n rows of p numbers
-pub record Inside (table : List ℕ) (p k q : ℕ) : Type 0 where
-  pub row-few : k * p ≤ 16384
-  pub few : k * p + q < 16384
-  pub inside : k * p + q < length table
-
 module _ {bytes table : List ℕ} (h : HoldsTable bytes table) where
   entry-inside : (k q : ℕ) → k < size (traceOf bytes) → q < traceOf bytes .workers
       → Inside table (traceOf bytes .workers) k q
@@ -78,6 +76,12 @@ module _ {bytes table : List ℕ} (h : HoldsTable bytes table) where
 
       last : suc k * p ≡ k * p + p
       last = suc-mul k p
+
+-- the entry of its own worker in row k
+pub own-inside : {bytes table : List ℕ} {p k q : ℕ} → HoldsTable bytes table → k < size (traceOf bytes)
+    → p ≡ traceOf bytes .workers → q ≡ workerOf (traceOf bytes) k → Inside table p k q
+own-inside {bytes} {k = k} h l e f =
+    rw (e, f) (entry-inside h k (workerOf (traceOf bytes) k) l (accepted-workers (h .accepted) .known k l))
 
 module _ {bytes table : List ℕ} {p a b : ℕ} (r : PairInTable bytes table p a b) {q : ℕ}
     (e : q ≡ workerOf (traceOf bytes) b)

@@ -1,10 +1,10 @@
 -- What the call answers and leaves in lent memory. In order: by the outcome of the questions; as the code comes to it;
 -- the races that an answer lists; the call's promise; what the answer says.
-use mathlib.Core.List.{List, [], _∷_, map}
+use mathlib.Core.List.{List}
 use mathlib.Core.Logic.{inl, inr, _↔_, Iff·trans}
-use mathlib.Core.Path.{_≡_, refl, sym, ap, _∙_}
+use mathlib.Core.Path.{_≡_, refl, sym, _∙_}
 use native.Mathlib.Omega.{arith}
-use Prim.Native.Nat.{ℕ, zero, suc, _<_, _≤_}
+use Prim.Native.Nat.{ℕ, _<_, _≤_}
 use lib.ListN.{length, take}
 use lib.Seq.{take-length}
 use borrow.Author.Tests.{le-leb, lt-leb}
@@ -24,8 +24,7 @@ use Rattle.order_table.proofs.Entries.{after-length, after-entry}
 use Rattle.order_table.proofs.Questions.{table-comes-out}
 use Rattle.race_search.specs.Premises.{HoldsTable}
 use Rattle.race_search.specs.RaceList.{raceList, raceCount}
-use Rattle.race_search.specs.declared.Race.{Race}
-use Rattle.races.specs.Premises.{Writable, BothWritten}
+use Rattle.races.specs.Premises.{Writable, AllWritten, tooMany, ListsCall}
 use Rattle.races.specs.Races.{lowerAfter, higherAfter, CountCall, RacesCall}
 use Rattle.races.specs.Races.{racesReading, answerOf, racesAnswer, listedBy, racesListed, toWrite, shorter}
 use Rattle.races.specs.Refusals.{AcceptedRaces, RefusedRaces}
@@ -68,21 +67,29 @@ module _ {bytes table : List ℕ} {p n : ℕ} (h : HoldsTable bytes table) (t : 
   filled : AcceptedTable bytes (length table) (traceOf bytes)
   filled = record { accepted = h .accepted; table-holds = h .room }
 
-  pub answer-listed : count ≤ room → Listed p n count ≡ racesAnswer bytes (length table) room
-  answer-listed l = rw (← t .workers, ← t .count, e) (sym (answer-by bytes (length table) room passes))
-    where
-      passes : racesReading bytes (length table) room ≡ reads (traceOf bytes)
-      passes =
-          races-comes-out bytes (length table) room .passes (traceOf bytes) .1
-          (record { filled = filled; list-holds = omega (arith, e) })
+  room-passes : count ≤ room → racesReading bytes (length table) room ≡ reads (traceOf bytes)
+  room-passes l =
+      races-comes-out bytes (length table) room .passes (traceOf bytes) .1
+      (record { filled = filled; list-holds = omega (arith, e) })
 
-  pub answer-short : room < count → Refused 16 count ≡ racesAnswer bytes (length table) room
-  answer-short l =
-      let refusal = races-comes-out bytes (length table) room .refuses 16 count .1 short in
-      sym (answer-by bytes (length table) room refusal)
+  room-refuses : room < count → racesReading bytes (length table) room ≡ refused 16 count
+  room-refuses l = races-comes-out bytes (length table) room .refuses 16 count .1 short
     where
       short : RefusedRaces bytes (length table) room 16 count
       short = by-this (traceOf bytes) filled (omega (arith, e)) refl e
+
+  pub answer-listed : count ≤ room → Listed p n count ≡ racesAnswer bytes (length table) room
+  answer-listed l = rw (← t .workers, ← t .count, e) (sym (answer-by bytes (length table) room (room-passes l)))
+
+  pub answer-short : room < count → Refused 16 count ≡ racesAnswer bytes (length table) room
+  answer-short l = sym (answer-by bytes (length table) room (room-refuses l))
+
+-- where filling the table refuses
+table-refusal : (bytes lent : List ℕ) (room : ℕ) {q k : ℕ} → tableAnswer bytes lent ≡ table.Refused q k
+    → racesReading bytes (length lent) room ≡ refused q k
+table-refusal bytes lent room {q} {k} a =
+    let no = table-comes-out bytes (length lent) .refuses q k .0 (table-refused bytes lent q k .0 a) in
+    races-comes-out bytes (length lent) room .refuses q k .1 (by-earlier no)
 
 module _ (bytes lent : List ℕ) {now : List ℕ} (room : ℕ) (e : now ≡ tableAfter bytes lent) where
   pub counts-filled : {answer : RacesAnswer} → answer ≡ racesAnswer bytes (length now) room
@@ -91,12 +98,11 @@ module _ (bytes lent : List ℕ) {now : List ℕ} (room : ℕ) (e : now ≡ tabl
 
   pub counts-refused : {q k : ℕ} → tableAnswer bytes lent ≡ table.Refused q k
       → CountCall bytes lent room (Refused q k) now
-  counts-refused {q} {k} a = record { answers = sym (answer-by bytes (length lent) room refusal); leaves-table = e }
-    where
-      refusal : racesReading bytes (length lent) room ≡ refused q k
-      refusal =
-          let no = table-comes-out bytes (length lent) .refuses q k .0 (table-refused bytes lent q k .0 a) in
-          races-comes-out bytes (length lent) room .refuses q k .1 (by-earlier no)
+  counts-refused a =
+      record {
+        answers = sym (answer-by bytes (length lent) room (table-refusal bytes lent room a));
+        leaves-table = e;
+      }
 
 -- ---- the races that an answer lists
 
@@ -144,40 +150,79 @@ shorter-fits x y = elim (less? y x) [
   | inr l ↦ rw (le-leb x y l) (omega arith, omega arith)
 ]
 
-take-map : {A B : Type 0} (f : A → B) (n : ℕ) (l : List A) → take n (map f l) ≡ map f (take n l)
-take-map f zero l = refl
-take-map f (suc n) [] = refl
-take-map {B = B} f (suc n) (x ∷ l) = ap (λ (r : List B). f x ∷ r) (take-map f n l)
+-- more than there is room for, or not
+many-none : (count room : ℕ) → tooMany count room < 1 → count ≤ room
+many-none count room l = elim (less? room count) [
+  | inl i ↦ omega (arith, rw (lt-leb count room i) at l)
+  | inr i ↦ i
+]
 
-module _ (lower higher : List ℕ) {bytes lent now : List ℕ} {room : ℕ} {answer : RacesAnswer}
-    (i : room ≡ shorter (length lower) (length higher)) (c : CountCall bytes lent room answer now) where
-  pub pairs-writable : {count : ℕ} → count ≡ toWrite answer
-      → Writable bytes now count × (count ≤ length lower) × (count ≤ length higher)
-  pairs-writable e =
+many-some : (count room : ℕ) → 0 < tooMany count room → (room < count) × (tooMany count room ≡ count)
+many-some count room l = elim (less? room count) [
+  | inl i ↦ (i, rw (lt-leb count room i))
+  | inr i ↦ absurd (omega (arith, rw (le-leb count room i) at l))
+]
+
+module _ {bytes table : List ℕ} {p n : ℕ} (h : HoldsTable bytes table) (t : HoldsTrace bytes p n)
+    (lower higher : List ℕ) {room : ℕ} (i : room ≡ shorter (length lower) (length higher)) {more : ℕ}
+    (e : more ≡ tooMany (raceCount (traceOf bytes)) room) where
+  -- there is room for all
+  pub lists-fit : more < 1 → (raceCount (traceOf bytes) ≤ length lower) × (raceCount (traceOf bytes) ≤ length higher)
+  lists-fit l =
+      let fits = many-none (raceCount (traceOf bytes)) room (rw e at l) in
       let short = shorter-fits (length lower) (length higher) in
-      rw e (
-        left-to-write c .writable,
-        omega (arith, left-to-write c .fits, i, short .0),
-        omega (arith, left-to-write c .fits, i, short .1),
-      )
+      (omega (arith, fits, i, short .0), omega (arith, fits, i, short .1))
 
-  pub call-races : {count : ℕ} {lower-now higher-now : List ℕ} → count ≡ toWrite answer
-      → BothWritten (traceOf bytes) count lower lower-now higher higher-now
+  pub lists-all : {count : ℕ} {lower-now higher-now : List ℕ} → more < 1
+      → AllWritten (traceOf bytes) count lower lower-now higher higher-now
+      → ListsCall bytes (length table) lower higher (Listed p n count) lower-now higher-now
+  lists-all {count} l w =
+      let fits : count ≤ room = omega (arith, w .counts, many-none (raceCount (traceOf bytes)) room (rw e at l)) in
+      let listed = listed-by bytes (length table) room (room-passes h t room (w .counts) fits) in
+      record {
+        answers = rw (← i) (answer-listed h t room (w .counts) fits);
+        lists-lower = rw (← i, listed) (w .all-lower);
+        lists-higher = rw (← i, listed) (w .all-higher);
+      }
+
+  pub lists-short : 0 < more → ListsCall bytes (length table) lower higher (Refused 16 more) lower higher
+  lists-short l =
+      let (short, same) = many-some (raceCount (traceOf bytes)) room (rw e at l) in
+      let none = listed-by bytes (length table) room (room-refuses h t room refl short) in
+      record {
+        answers = rw (← i, e, same) (answer-short h t room refl short);
+        lists-lower = rw (← i, none);
+        lists-higher = rw (← i, none);
+      }
+
+module _ (bytes lent : List ℕ) {now : List ℕ} (lower higher : List ℕ) (e : now ≡ tableAfter bytes lent) where
+  pub call-filled : {answer : RacesAnswer} {lower-now higher-now : List ℕ}
+      → ListsCall bytes (length now) lower higher answer lower-now higher-now
       → RacesCall bytes lent lower higher answer now lower-now higher-now
   unfolding lowerAfter higherAfter
-  call-races {count} {lower-now} {higher-now} e w =
+  call-filled l =
+      let same : length now ≡ length lent = rw e (after-length bytes lent) in
       record {
-        answers = rw i at (c .answers);
-        leaves-table = c .leaves-table;
-        leaves-lower = rw (listed, ← take-map (λ (r : Race). r .lower) count races) (w .lower-written);
-        leaves-higher = rw (listed, ← take-map (λ (r : Race). r .higher) count races) (w .higher-written);
+        answers = rw same at (l .answers);
+        leaves-table = e;
+        leaves-lower = rw same at (l .lists-lower);
+        leaves-higher = rw same at (l .lists-higher);
+      }
+
+  pub call-refused : {q k : ℕ} → tableAnswer bytes lent ≡ table.Refused q k
+      → RacesCall bytes lent lower higher (Refused q k) now lower higher
+  unfolding lowerAfter higherAfter
+  call-refused {q} {k} a =
+      let none = listed-by bytes (length lent) (shorter (length lower) (length higher)) refusal in
+      record {
+        answers = sym (answer-by bytes (length lent) (shorter (length lower) (length higher)) refusal);
+        leaves-table = e;
+        leaves-lower = rw none;
+        leaves-higher = rw none;
       }
     where
-      races : List Race
-      races = raceList (traceOf bytes)
-
-      listed : racesListed bytes (length lent) (shorter (length lower) (length higher)) ≡ take count races
-      listed = rw (← i, e) (left-to-write c .listed)
+      refusal : racesReading bytes (length lent) (shorter (length lower) (length higher)) ≡ refused q k
+      refusal = table-refusal bytes lent (shorter (length lower) (length higher)) a
 
 -- ---- what the answer says
 

@@ -1,18 +1,24 @@
--- Writing races to two lists. In order: where the next race can be looked for; the steps; the end.
-use mathlib.Core.List.{List, map}
-use mathlib.Core.Path.{_≡_, refl, _∙_}
+-- Counting races and writing them to two lists, row by row. In order: where the next race can be looked for; numbers
+-- written from a place of a list on; counting; writing; the end.
+use mathlib.Core.List.{List, [], _∷_, _++_, map, append-assoc}
+use mathlib.Core.Path.{_≡_, refl, sym, ap, _∙_}
 use native.Mathlib.Numerals.{add-one}
 use native.Mathlib.Omega.{arith}
-use Prim.Native.Nat.{ℕ, zero, suc, _+_, _<_, _≤_}
-use lib.ListN.{length, set, take, length-map, List·getD-map}
+use Prim.Native.Nat.{ℕ, zero, suc, _+_, _*_, _<_, _≤_}
+use lib.ListN.{length, getD, set, take, replicate, length-map, length-replicate, getD-replicate}
+use lib.Seq.{paste, paste-zero, paste-suc, length-paste, drop-drop, take-all}
 use Rattle.trace.specs.Reading.{traceOf}
-use Rattle.trace.specs.Trace.{Trace}
-use Rattle.lent.proofs.Writing.{Written, written-none, written-copy}
+use Rattle.trace.specs.Trace.{Trace, size}
+use Rattle.lent.proofs.Writing.{Written, written-none, written-part}
 use Rattle.race_search.specs.declared.Race.{Race}
-use Rattle.race_search.specs.Premises.{Resumes, raceBefore}
-use Rattle.race_search.specs.RaceList.{pair, raceList, raceCount, noRace, raceAt, nextRace}
-use Rattle.race_search.proofs.Chain.{next-race-at, race-operations}
-use Rattle.races.specs.Premises.{Writable, BothWritten}
+use Rattle.race_search.specs.Premises.{HoldsTable, Resumes, raceBefore}
+use Rattle.race_search.specs.RaceList.{pair, racesBelow, raceList, raceCount}
+use Rattle.race_search.specs.Rows.{CellsBelow, PlacesBelow, RowOfCells, RowOfTable, raceRow, RowHolds}
+use Rattle.race_search.proofs.Chain.{race-operations}
+use Rattle.race_search.proofs.RowLists.{map-append, row-count, below-start, below-next, below-count, below-few}
+use Rattle.race_search.proofs.RowLists.{below-all}
+use Rattle.race_search.proofs.TableEntries.{table-reads}
+use Rattle.races.specs.Premises.{Writable, AllWritten}
 use Rattle.races.specs.Races.{lowers, highers}
 
 -- ---- where the next race can be looked for
@@ -25,59 +31,179 @@ writable-resumes {bytes} w (suc i) l =
     let race = race-operations (traceOf bytes) i inside in
     record { holds = w .holds (omega arith); ascending = omega (arith, race .0) }
 
--- ---- the steps
+-- ---- numbers written from a place of a list on
 
--- the first `at` races are written to the two lists, and `race` is the one before race `at`
-pub record PairsWritten (t : Trace) (count : ℕ) (lower lower-now higher higher-now : List ℕ) (race : Race) (at : ℕ)
-    : Type 0 where
-  pub seen : at ≤ count
-  pub race-before : race ≡ raceBefore t at
-  pub low : Written at (take at (lowers (raceList t))) lower lower-now
-  pub high : Written at (take at (highers (raceList t))) higher higher-now
+-- the first i of `count` numbers of `new` are written to the list `old`, from `at` on
+pub record Pasted (old : List ℕ) (at : ℕ) (new : List ℕ) (count i : ℕ) (now : List ℕ) : Type 0 where
+  pub room : at + count ≤ length old
+  pub long : count ≤ length new
+  pub seen : i ≤ count
+  pub whole : now ≡ paste old at new i
 
-pub pairs-none : (t : Trace) (count : ℕ) (lower higher : List ℕ)
-    → PairsWritten t count lower lower higher higher (pair 0 0) 0
-pairs-none t count lower higher =
-    record { seen = omega arith; race-before = refl; low = written-none lower; high = written-none higher }
+pub pasted-none : (old : List ℕ) {at : ℕ} (new : List ℕ) {count : ℕ} → at + count ≤ length old → count ≤ length new
+    → Pasted old at new count 0 old
+pasted-none old {at} new l i = record { room = l; long = i; seen = omega arith; whole = paste-zero old at new }
 
--- one of the lists, where `number` is the lower or the higher operation of a race
-list-more : (t : Trace) (number : Race → ℕ) {at : ℕ} {old now : List ℕ}
-    → Written at (take at (map number (raceList t))) old now → at < raceCount t → at < length old
-    → Written (at + 1) (take (at + 1) (map number (raceList t))) old (set now at (number (raceAt t at)))
-list-more t number {at} w inside l =
-    rw (← List·getD-map number (raceList t) at (noRace t))
-    (written-copy (map number (raceList t)) w (number (noRace t)) long (omega (arith, w .size, l)))
-  where
-    long : at < length (map number (raceList t))
-    long = rw (length-map (raceList t) number) inside
+module _ {old : List ℕ} {at : ℕ} {new : List ℕ} {count i : ℕ} {now : List ℕ} (p : Pasted old at new count i now) where
+  pub pasted-size : length now ≡ length old
+  pasted-size =
+      rw (p .whole) (length-paste old at new i (omega (arith, p .room, p .seen)) (omega (arith, p .long, p .seen)))
 
-module _ {t : Trace} {count : ℕ} {lower lower-now higher higher-now : List ℕ} {race : Race} {at : ℕ}
-    (w : PairsWritten t count lower lower-now higher higher-now race at) where
-  pub pairs-resume : {bytes table : List ℕ} → traceOf bytes ≡ t → Writable bytes table count → at < count
-      → Resumes bytes table race
-  pairs-resume e h l = rw (w .race-before, ← e) (writable-resumes h at l)
-
-  pub pairs-more : {next : Race} → count ≤ raceCount t → count ≤ length lower → count ≤ length higher → at < count
-      → next ≡ nextRace t race
-      → PairsWritten t count lower (set lower-now at (next .lower)) higher (set higher-now at (next .higher)) next
-      (at + 1)
-  pairs-more {next} some long-lower long-higher l e =
+  pub pasted-more : {x : ℕ} → i < count → x ≡ getD new i 0 → Pasted old at new count (i + 1) (set now (at + i) x)
+  pasted-more l e =
       record {
+        room = p .room;
+        long = p .long;
         seen = omega arith;
-        race-before = rw add-one race-is;
-        low = rw race-is (list-more t (λ r. r .lower) (w .low) inside (omega arith));
-        high = rw race-is (list-more t (λ r. r .higher) (w .high) inside (omega arith));
+        whole =
+            rw (e, p .whole, add-one)
+            (paste-suc old at new i 0 (omega (arith, p .room)) (omega (arith, p .long)));
       }
-    where
-      inside : at < raceCount t
-      inside = omega arith
 
-      race-is : next ≡ raceAt t at
-      race-is = e ∙ rw (w .race-before) (next-race-at t at (omega (arith, inside)))
+  pub pasted-all : count ≤ i → now ≡ paste old at new count
+  pasted-all l = let e : i ≡ count = omega (arith, p .seen) in rw e at (p .whole)
+
+pub filled-long : (count x : ℕ) → count ≤ length (replicate count x)
+filled-long count x = rw (length-replicate count x) (omega arith)
+
+pub filled-at : (count x i : ℕ) → i < count → x ≡ getD (replicate count x) i 0
+filled-at count x i l = sym (getD-replicate count i x 0 l)
+
+-- ---- counting
+
+-- where the races of a can be looked for
+pub row-of : {bytes table first last writes workers own : List ℕ} {a : ℕ} → HoldsTable bytes table
+    → CellsBelow (traceOf bytes) (size (traceOf bytes)) first last writes
+    → PlacesBelow (traceOf bytes) (size (traceOf bytes)) table workers own → a < size (traceOf bytes)
+    → RowOfCells bytes first last writes a × RowOfTable bytes table workers own a
+row-of h c p l = (
+  record { trace = table-reads h; cells = c; inside = l },
+  record { holds = h; places = p; inside = l },
+)
+
+-- the races whose lower operation is below a are counted
+pub record Counted (t : Trace) (a count : ℕ) (marks row : List ℕ) : Type 0 where
+  pub below : a ≤ size t
+  pub few : count ≤ 1024 * a
+  pub counts : count ≡ length (racesBelow t a)
+  pub marks-long : length marks ≡ 1024
+  pub row-long : length row ≡ 1024
+
+pub count-none : (t : Trace) {marks row : List ℕ} → length marks ≡ 1024 → length row ≡ 1024
+    → Counted t 0 0 marks row
+count-none t e f =
+    record {
+      below = omega arith;
+      few = omega arith;
+      counts = sym (ap length (below-start t));
+      marks-long = e;
+      row-long = f;
+    }
+
+module _ {t : Trace} {a count : ℕ} {marks row : List ℕ} (c : Counted t a count marks row) where
+  pub count-more : {more : ℕ} {marks-now row-now : List ℕ} → a < size t
+      → RowHolds (raceRow t a) more row-now × (length marks-now ≡ 1024)
+      → Counted t (a + 1) (count + more) marks-now row-now
+  count-more {more} l (r, e) =
+      record {
+        below = omega arith;
+        few = omega (arith, c .few, r .few);
+        counts = rw add-one (omega (arith, c .counts, below-count t a, row-count r));
+        marks-long = e;
+        row-long = r .long;
+      }
+
+  pub count-all : size t ≤ a → count ≡ raceCount t
+  count-all l =
+      let e : a ≡ size t = omega (arith, c .below) in
+      c .counts ∙ rw e (ap length (below-all t))
+
+-- ---- writing
+
+-- the races whose lower operation is below a are written to the two lists
+pub record RowsWritten (t : Trace) (a at : ℕ) (lower lower-now higher higher-now marks row : List ℕ) : Type 0 where
+  pub below : a ≤ size t
+  pub low : Written at (lowers (racesBelow t a)) lower lower-now
+  pub high : Written at (highers (racesBelow t a)) higher higher-now
+  pub marks-long : length marks ≡ 1024
+  pub row-long : length row ≡ 1024
+
+pub rows-none : (t : Trace) (lower higher : List ℕ) {marks row : List ℕ} → length marks ≡ 1024 → length row ≡ 1024
+    → RowsWritten t 0 0 lower lower higher higher marks row
+rows-none t lower higher e f =
+    record {
+      below = omega arith;
+      low = rw (below-start t) (written-none lower);
+      high = rw (below-start t) (written-none higher);
+      marks-long = e;
+      row-long = f;
+    }
+
+-- the lower and the higher operations of a row
+row-lowers : (a : ℕ) (l : List ℕ) → lowers (map (pair a) l) ≡ replicate (length l) a
+row-lowers a [] = refl
+row-lowers a (b ∷ l) = ap (λ (r : List ℕ). a ∷ r) (row-lowers a l)
+
+row-highers : (a : ℕ) (l : List ℕ) → highers (map (pair a) l) ≡ l
+row-highers a [] = refl
+row-highers a (b ∷ l) = ap (λ (r : List ℕ). b ∷ r) (row-highers a l)
+
+-- `part`, the first `count` numbers of `new`, is written behind what is written
+pasted-written : {at count : ℕ} {old now before : List ℕ} (new part : List ℕ) → Written at before old now
+    → length part ≡ count → take count new ≡ part → at + count ≤ length old
+    → Written (at + count) (before ++ part) old (paste now at new count)
+pasted-written {at} {count} {old} {now} new part w e f l =
+    rw (f, append-assoc, ← drop-drop count at now) (written-part w part e l)
+
+module _ {t : Trace} {a at : ℕ} {lower lower-now higher higher-now marks row : List ℕ}
+    (w : RowsWritten t a at lower lower-now higher higher-now marks row) where
+  rows-at : at ≡ length (racesBelow t a)
+  rows-at = sym (w .low .place) ∙ length-map (racesBelow t a) (λ (r : Race). r .lower)
+
+  -- a row more has room
+  module _ {more : ℕ} {row-now : List ℕ} (l : a < size t) (r : RowHolds (raceRow t a) more row-now) where
+    pub rows-room : at + more ≤ raceCount t
+    rows-room = omega (arith, rows-at, below-count t a, row-count r, below-few t (suc a) (omega arith))
+
+    pub rows-more : {lower-next higher-next marks-now : List ℕ} → raceCount t ≤ length lower
+        → raceCount t ≤ length higher → length marks-now ≡ 1024
+        → lower-next ≡ paste lower-now at (replicate more a) more → higher-next ≡ paste higher-now at row-now more
+        → RowsWritten t (a + 1) (at + more) lower lower-next higher higher-next marks-now row-now
+    rows-more i j m e f =
+        record {
+          below = omega arith;
+          low = rw (add-one, e, row-more (λ r. r .lower), row-lowers, count) low;
+          high = rw (add-one, f, row-more (λ r. r .higher), row-highers) high;
+          marks-long = m;
+          row-long = r .long;
+        }
+      where
+        count : length (raceRow t a) ≡ more
+        count = row-count r
+
+        row-more : (number : Race → ℕ) → map number (racesBelow t (suc a))
+            ≡ map number (racesBelow t a) ++ map number (map (pair a) (raceRow t a))
+        row-more number = rw (below-next t a) (map-append number (racesBelow t a) (map (pair a) (raceRow t a)))
+
+        low : Written (at + more) (lowers (racesBelow t a) ++ replicate more a) lower
+            (paste lower-now at (replicate more a) more)
+        low =
+            let long = length-replicate more a in
+            pasted-written (replicate more a) (replicate more a) (w .low) long
+            (take-all more (replicate more a) (omega (arith, long)))
+            (omega (arith, rows-room))
+
+        high : Written (at + more) (highers (racesBelow t a) ++ raceRow t a) higher (paste higher-now at row-now more)
+        high = pasted-written row-now (raceRow t a) (w .high) count (r .front) (omega (arith, rows-room))
 
   -- ---- the end
 
-  pub pairs-all : count ≤ at → BothWritten t count lower lower-now higher higher-now
-  pairs-all l =
-      let e : at ≡ count = omega (arith, w .seen) in
-      record { lower-written = rw e at (w .low .whole); higher-written = rw e at (w .high .whole) }
+  pub rows-all : size t ≤ a → AllWritten t at lower lower-now higher higher-now
+  rows-all l =
+      let last : a ≡ size t = omega (arith, w .below) in
+      let e : racesBelow t a ≡ raceList t = rw last (below-all t) in
+      record {
+        counts = rows-at ∙ ap length e;
+        all-lower = rw e at (w .low .whole);
+        all-higher = rw e at (w .high .whole);
+      }

@@ -2,7 +2,8 @@
 use mathlib.Core.Path.{sym}
 use native.Mathlib.Omega.{arith}
 use borrow.Author.Needs.{needs}
-use Rattle.race_search.proofs.TableEntries.{Inside, first-inside, second-inside, entries-tell}
+use Rattle.race_search.specs.Premises.{Inside}
+use Rattle.race_search.proofs.TableEntries.{first-inside, second-inside, entries-tell}
 use Rattle.race_search.proofs.must_precede.Statement.{statement}
 use Rattle.race_search.proofs.must_precede.Tie as tie
 
