@@ -51,10 +51,13 @@ static void call_two_runs(void)
                                   MERSOHKI_MAX_OPERATIONS).operations;
 }
 
+/* With room for any number of races; then with none, and with just enough, where they have to be counted first. */
 static void call_races(void)
 {
-    seen += mersohki_races(file, length, table, MERSOHKI_MAX_TABLE, lower, MERSOHKI_MAX_RACES, higher,
-                           MERSOHKI_MAX_RACES).races;
+    uint32_t races = mersohki_races(file, length, table, MERSOHKI_MAX_TABLE, lower, MERSOHKI_MAX_RACES, higher,
+                                    MERSOHKI_MAX_RACES).races;
+    seen += mersohki_races(file, length, table, MERSOHKI_MAX_TABLE, lower, 0, higher, 0).place;
+    seen += mersohki_races(file, length, table, MERSOHKI_MAX_TABLE, lower, races, higher, races).races;
 }
 
 static void call_canonical(void)
