@@ -75,6 +75,7 @@ struct input {
     size_t length;
     uint32_t a, b;             /* the pair whose order is asked */
     uint32_t left, right;      /* an unordered pair, for the two runs */
+    uint32_t races;
     uint8_t *file;
 };
 
@@ -179,6 +180,8 @@ static int choose_pairs(struct random *r, struct input *in, uint32_t n)
 static struct input inputs[MOST_TRACES];
 static uint8_t files[10 * (RECORDS + MOST_TRACES)];
 
+static uint32_t count_races(const struct input *in);
+
 /* Makes the traces of a cell, one behind the other: the same ones whenever it is asked for. */
 static void make_inputs(enum family family, uint32_t n, uint32_t p, uint32_t count)
 {
@@ -188,6 +191,7 @@ static void make_inputs(enum family family, uint32_t n, uint32_t p, uint32_t cou
         do
             make_trace(&r, &inputs[i], family, n, p);
         while (!choose_pairs(&r, &inputs[i], n));
+        inputs[i].races = count_races(&inputs[i]);
     }
 }
 
@@ -237,16 +241,25 @@ typedef struct answer call(const struct input *in, struct memory *m);
                                                       m->first, m->first_length, m->second, m->second_length);        \
         return (struct answer){r.number, r.place, r.workers, r.operations, r.races};                                  \
     }                                                                                                                 \
+    static struct answer side##_fit_call(const struct input *in, struct memory *m)                                    \
+    {                                                                                                                 \
+        struct mersohki_races_result r = side##_races(in->file, in->length, m->table, m->table_length,                \
+                                                      m->first, in->races, m->second, in->races);                     \
+        return (struct answer){r.number, r.place, r.workers, r.operations, r.races};                                  \
+    }                                                                                                                 \
     static struct answer side##_tidy_call(const struct input *in, struct memory *m)                                   \
     {                                                                                                                 \
         struct mersohki_canonical_result r = side##_canonical(in->file, in->length, m->output, m->output_length);     \
         return (struct answer){r.number, r.place, 0, 0, r.size};                                                      \
     }                                                                                                                 \
     static call *const side##_calls[CALLS] = {side##_read_call,  side##_table_call, side##_order_call,                \
-                                              side##_runs_call, side##_races_call, side##_tidy_call};
+                                              side##_runs_call, side##_races_call, side##_fit_call,                   \
+                                              side##_tidy_call};
 
-enum { READ_FILE, TABLE, PAIR_ORDER, TWO_RUNS, RACES, TIDY, CALLS };
-static const char *const call_names[CALLS] = {"read", "order table", "pair order", "two runs", "races", "tidy file"};
+/* The races twice: with lists that hold any number of them, and with lists that just hold those of the trace. */
+enum { READ_FILE, TABLE, PAIR_ORDER, TWO_RUNS, RACES, RACES_FIT, TIDY, CALLS };
+static const char *const call_names[CALLS] = {"read",  "order table", "pair order", "two runs",
+                                              "races", "races, fit",  "tidy file"};
 
 DEFINE_CALLS(mersohki)
 DEFINE_CALLS(native)
@@ -254,6 +267,12 @@ DEFINE_CALLS(native)
 /* Comparing */
 
 static struct memory ours, theirs;
+
+static uint32_t count_races(const struct input *in)
+{
+    return native_races(in->file, in->length, theirs.table, MERSOHKI_MAX_TABLE, theirs.first, MERSOHKI_MAX_RACES,
+                        theirs.second, MERSOHKI_MAX_RACES).races;
+}
 
 static void lend(struct memory *m, size_t table, size_t first, size_t second, size_t output)
 {
@@ -348,13 +367,15 @@ static void lend_both(struct random *r, size_t table, size_t list, size_t output
     lend(&theirs, table, first, second, output);
 }
 
-/* Compares all calls on one file: with all the memory they need, or with random lengths of memory. */
+/* Compares all calls on one file: with just the memory they need, or with random lengths of memory. */
 static void compare_file(struct random *r, const struct input *in, int exactly, struct tally *tally)
 {
     lend(&theirs, MERSOHKI_MAX_TABLE, MERSOHKI_MAX_RACES, MERSOHKI_MAX_RACES, MERSOHKI_MAX_FILE);
     struct answer whole = native_races_call(in, &theirs);
     size_t table = (size_t)whole.operations * whole.workers;
     for (int which = 0; which < CALLS; which++) {
+        if (which == RACES_FIT)
+            continue;
         size_t list = which == RACES ? (size_t)whole.value : whole.operations;
         if (exactly) {
             lend(&ours, table, list, list, in->length);
@@ -373,8 +394,12 @@ static void compare_families(struct tally *tally)
         for (int family = 0; family < FAMILIES; family++)
             for (uint32_t i = 0; i < SIZES; i++) {
                 make_inputs(family, sizes[i], worker_counts[p], RECORDS / sizes[i]);
-                for (uint32_t j = 0; j < RECORDS / sizes[i]; j++)
+                for (uint32_t j = 0; j < RECORDS / sizes[i]; j++) {
                     compare_file(&r, &inputs[j], 1, tally);
+                    lend(&ours, MERSOHKI_MAX_TABLE, MERSOHKI_MAX_RACES, MERSOHKI_MAX_RACES, MERSOHKI_MAX_FILE);
+                    lend(&theirs, MERSOHKI_MAX_TABLE, MERSOHKI_MAX_RACES, MERSOHKI_MAX_RACES, MERSOHKI_MAX_FILE);
+                    compare_call(&inputs[j], RACES, tally);
+                }
             }
 }
 
@@ -613,7 +638,8 @@ static void print_setting(void)
            "            visit; so %u to %u passes of the library\n",
            VISIT_SECONDS, FEWEST_ROUNDS, VISITS, SLOW_SECONDS, fewest, most);
     printf("traces      %d / n different ones in turn, all accepted\n", RECORDS);
-    printf("buffers     the same for both sides, not cleared between calls\n");
+    printf("buffers     the same for both sides, not cleared between calls; lists for %d races, or, where\n"
+           "            they fit, for just as many as the trace has\n", MERSOHKI_MAX_RACES);
     for (uint32_t p = 0; p < WORKER_COUNTS; p++) {
         printf("%s p = %-2u", p == 0 ? "races       mean at n = 1024:" : "                             ",
                worker_counts[p]);
@@ -688,6 +714,8 @@ void counted_pass(uint32_t count);
 void counted_pass(uint32_t count)
 {
     for (int which = 0; which < CALLS; which++) {
+        if (which == RACES_FIT)
+            continue;
         pass(mersohki_calls[which], count);
         pass(native_calls[which], count);
     }

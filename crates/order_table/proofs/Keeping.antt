@@ -133,9 +133,8 @@ module _ {bytes : List ℕ} {p n : ℕ} {order starts before : List ℕ} (x : Fi
         written : (old : List ℕ) → RowsTo t starts at old now
             → RowsTo t starts (at + 1) old (rowPut p k (take p (u .done)) now)
         written old r =
-            let all : size t * p ≤ length now = rw (holds .count) (omega (arith, x .room, s .same-length)) in
             rw (← holds .workers) (rows-more holds (x .walkable .indexed) r place-below here (exhausted-row fits e)
-            (rw (holds .workers) (room .table-holds)) (rw (holds .workers) all))
+            (rw (holds .workers) (room .table-holds)))
 
   -- ---- the start, and the end
 

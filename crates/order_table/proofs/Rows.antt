@@ -99,9 +99,8 @@ module _ {bytes : List ℕ} {p n : ℕ} {order starts : List ℕ} (h : HoldsTrac
   -- row k, which has room, is written, and k stands at the place `at`
   pub rows-more : {at k : ℕ} {old now counts : List ℕ} → RowsTo t starts at old now → k < size t
       → placeOf t starts k ≡ at → counts ≡ row t k → k * t .workers + t .workers ≤ length now
-      → size t * t .workers ≤ length now
       → RowsTo t starts (at + 1) old (rowPut (t .workers) k counts now)
-  rows-more {at} {k} {old} {now} {counts} r l e c room all =
+  rows-more {at} {k} {old} {now} {counts} r l e c room =
       record {
         same-length = put-length w k counts now long room ∙ r .same-length;
         rows = each;

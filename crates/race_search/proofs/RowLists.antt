@@ -1,6 +1,6 @@
 -- The race list, row by row. In order: the numbers that pass a test; a row of races; the list, with a row more.
 use mathlib.Core.Bool.{Bool, true, false, cond, true≢false}
-use mathlib.Core.List.{List, [], _∷_, _++_, map, append-nil, append-assoc}
+use mathlib.Core.List.{List, [], _∷_, _++_, map, map-append, append-nil, append-assoc}
 use mathlib.Core.Logic.{_⊎_, inl, inr}
 use mathlib.Core.Path.{_≡_, refl, sym, ap, _∙_}
 use native.Mathlib.Omega.{arith}
@@ -104,10 +104,6 @@ passing-kept f g h (suc b) = go (f b) (g b) refl refl (passing-kept f g h b)
     go false false e i p = rw (passing-same f b e, passing-same g b i, p)
 
 -- ---- a row of races
-
-pub map-append : {A B : Type 0} (f : A → B) (l m : List A) → map f (l ++ m) ≡ map f l ++ map f m
-map-append f [] m = refl
-map-append {B = B} f (x ∷ l) m = ap (λ (r : List B). f x ∷ r) (map-append f l m)
 
 -- as many as are listed
 pub row-count : {numbers : List ℕ} {count : ℕ} {row : List ℕ} → RowHolds numbers count row → length numbers ≡ count

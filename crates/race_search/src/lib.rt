@@ -379,6 +379,7 @@ pub fn list_row(
         return 0;
     }
     let n = trace::operation_count(file) as usize;
+    // Where most of the row is in conflict, one loop over all of it is faster than listing those first.
     if 3 * wide32(count) < 2 * (n - a) {
         let listed = list_marked(file, a, marks, row);
         return keep_unordered(file, table, workers, own, a, listed, row);

@@ -1,6 +1,6 @@
 -- Counting races and writing them to two lists, row by row. In order: where the next race can be looked for; numbers
 -- written from a place of a list on; counting; writing; the end.
-use mathlib.Core.List.{List, [], _∷_, _++_, map, append-assoc}
+use mathlib.Core.List.{List, [], _∷_, _++_, map, map-append, append-assoc}
 use mathlib.Core.Path.{_≡_, refl, sym, ap, _∙_}
 use native.Mathlib.Numerals.{add-one}
 use native.Mathlib.Omega.{arith}
@@ -15,7 +15,7 @@ use Rattle.race_search.specs.Premises.{HoldsTable, Resumes, raceBefore}
 use Rattle.race_search.specs.RaceList.{pair, racesBelow, raceList, raceCount}
 use Rattle.race_search.specs.Rows.{CellsBelow, PlacesBelow, RowOfCells, RowOfTable, raceRow, RowHolds}
 use Rattle.race_search.proofs.Chain.{race-operations}
-use Rattle.race_search.proofs.RowLists.{map-append, row-count, below-start, below-next, below-count, below-few}
+use Rattle.race_search.proofs.RowLists.{row-count, below-start, below-next, below-count, below-few}
 use Rattle.race_search.proofs.RowLists.{below-all}
 use Rattle.race_search.proofs.TableEntries.{table-reads}
 use Rattle.races.specs.Premises.{Writable, AllWritten}

@@ -41,6 +41,7 @@ use Rattle.walk.specs.Events.{isPosted}
 use Rattle.walk.specs.Walks.{Fits, startWalk, nextOf, mayRun, move, added, walkFrom, runFrom}
 use Rattle.walk.proofs.Moves.{may-below, Moved, move-some, move-none, walk-stop}
 use Rattle.walk.proofs.NextOperations.{next-rth, rth-next}
+use Rattle.walk.proofs.Passing.{left-out-may}
 use Rattle.walk.proofs.Notes.{added-other}
 use Rattle.simulation.specs.Shows.{Walked, Ends, Lacking, Exhausted, Kept}
 use Rattle.simulation.proofs.Answers.{ends-row}
@@ -48,15 +49,6 @@ use Rattle.simulation.proofs.Ends.{ends-count}
 use Rattle.simulation.proofs.Moves.{move-lowest}
 use Rattle.simulation.proofs.States.{shows-start, shows-added}
 use Rattle.simulation.proofs.Walked.{workers-known, walked}
-
--- the operation left out may not run
-left-out : (t : Trace) (events : List ℕ) (b : ℕ) → mayRun t b events b ≡ true → ⊥
-unfolding mayRun
-left-out t events b m = go (ltb b (size t)) (rw (eq-eqb b b refl) at m)
-  where
-    go : (x : Bool) → cond x false false ≡ true → ⊥
-    go true e = zero-one cc
-    go false e = zero-one cc
 
 -- what may run where b is left out may run where another is
 may-other : (t : Trace) (events : List ℕ) (k b : ℕ) {a : ℕ} → k ≢ a → mayRun t b events k ≡ true
@@ -109,7 +101,7 @@ module _ {t : Trace} (f : Fits t) {a : ℕ} where
     exhausted-row = ends-row f (execution-means t .0 (x .maximal)) (x .ends)
 
     -- no worker can go on
-    pub exhausted-stops : size t ≤ move t a w
+    exhausted-stops : size t ≤ move t a w
     exhausted-stops = elim (less? (move t a w) (size t)) [
       | inl l ↦
           let closed = maximal-closed (without-monotone (rule-monotone t) a) (maximal-without .0 (x .maximal)) in
@@ -154,7 +146,7 @@ module _ {t : Trace} (f : Fits t) {a : ℕ} where
     unfolding added
     own-events e = rw e
 
-    pub own-stops : isPost (operation t a .kind) ≡ false → {b : ℕ} → nextOf t (added t w a) (workerOf t a) ≡ b
+    own-stops : isPost (operation t a .kind) ≡ false → {b : ℕ} → nextOf t (added t w a) (workerOf t a) ≡ b
         → size t ≤ move t b (added t w a)
     own-stops e {b} next = elim (less? (move t b (added t w a)) (size t)) [
       | inl l ↦ absurd (moves (move-some t b (added t w a) l))
@@ -162,7 +154,10 @@ module _ {t : Trace} (f : Fits t) {a : ℕ} where
     ]
       where
         own : mayRun t b (w .events) (nextOf t (added t w a) (workerOf t a)) ≡ true → ⊥
-        own m = left-out t (w .events) b (rw next at m)
+        own m =
+            let none = left-out-may t b (w .events) in
+            let some = rw next at m in
+            zero-one cc
 
         other : (r : ℕ) → r < t .workers → r ≢ workerOf t a → mayRun t b (w .events) (nextOf t w r) ≡ true → ⊥
         other r l d m =

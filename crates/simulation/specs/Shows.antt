@@ -1,7 +1,7 @@
 -- When the state of a walk shows the operations that are done.
 -- Follows: document 01, "Runs": "the state of a walk is how many operations each worker has done, and the set of posted
 -- events".
--- Differs: nowhere. A means: no contract speaks of it.
+-- Differs: nowhere. A means: no contract of a call speaks of it.
 use mathlib.Core.Bool.{Bool, false}
 use mathlib.Core.List.{List, []}
 use mathlib.Core.Path.{_≡_}

@@ -70,7 +70,7 @@ module _ {t : Trace} {a : ℕ} {start : Walk} {old : List ℕ} {w : Walk} {at q 
       → after ≡ start-place + getD (w′ .done) q 0 → after - before ≡ u .taken
   taken-is start-place e i = omega (arith, e, i, u .count)
 
-  pub taken-fits : at + u .taken ≤ length old
+  taken-fits : at + u .taken ≤ length old
   taken-fits = omega (arith, u .few, s .written .fits)
 
   -- the code's `width` of the part, and `more`, by which it goes on

@@ -5,7 +5,7 @@ use mathlib.Core.List.{List}
 use mathlib.Core.Logic.{inl, inr, _≢_}
 use mathlib.Core.Path.{_≡_, refl, sym, ap, _∙_}
 use native.Mathlib.Omega.{arith}
-use Prim.Native.Nat.{ℕ, suc, _+_, _-_, _%_, _<_, _≤_}
+use Prim.Native.Nat.{ℕ, suc, _+_, _-_, _%_, _<_, _≤_, max}
 use lib.Dec.{eqb, ltb}
 use lib.ListN.{getD, set, replicate, length-set}
 use lib.Seq.{getD-set-same, getD-set-other}
@@ -62,18 +62,29 @@ noted-held {t} {a} {w} {notes} s {q} l h = go (s .why q l)
     go (ends e (inl i)) = rw i (none-may t a (w .events))
     go (ends e (inr i)) = rw i (left-out-may t a (w .events))
 
--- looking for one that no note holds
-pub held-start : (p : ℕ) (notes events : List ℕ) (from : ℕ) → HeldTo p notes events from from
+-- looking for one that no note holds: those from `from` on, below r, are held
+pub record HeldSoFar (p : ℕ) (notes events : List ℕ) (from r : ℕ) : Type 0 where
+  pub from-on : from ≤ r
+  pub up-to : r ≤ max from p
+  pub each : (i : ℕ) → from ≤ i → i < r → held (getD notes i 0) events ≡ true
+
+pub held-start : (p : ℕ) (notes events : List ℕ) (from : ℕ) → HeldSoFar p notes events from from
 held-start p notes events from =
     record { from-on = omega arith; up-to = omega arith; each = λ i h l. absurd (omega arith) }
 
-pub held-more : {p : ℕ} {notes events : List ℕ} {from r : ℕ} → HeldTo p notes events from r → r < p
-    → held (getD notes r 0) events ≡ true → HeldTo p notes events from (r + 1)
-held-more {p} {notes} {events} {from} {r} s l e =
-    record { from-on = omega (arith, s .from-on); up-to = omega (arith, s .from-on, l); each = each }
-  where
-    each : (i : ℕ) → from ≤ i → i < r + 1 → held (getD notes i 0) events ≡ true
-    each i h k = elim (equal? i r) [ inl z ↦ rw z e | inr d ↦ s .each i h (omega (arith, k, d)) ]
+module _ {p : ℕ} {notes events : List ℕ} {from r : ℕ} (s : HeldSoFar p notes events from r) where
+  pub held-more : r < p → held (getD notes r 0) events ≡ true → HeldSoFar p notes events from (r + 1)
+  held-more l e = record { from-on = omega (arith, s .from-on); up-to = omega (arith, s .from-on, l); each = each }
+    where
+      each : (i : ℕ) → from ≤ i → i < r + 1 → held (getD notes i 0) events ≡ true
+      each i h k = elim (equal? i r) [ inl z ↦ rw z e | inr d ↦ s .each i h (omega (arith, k, d)) ]
+
+  pub held-found : held (getD notes r 0) events ≡ false → HeldTo p notes events from r
+  held-found e = record { from-on = s .from-on; up-to = s .up-to; each = s .each; free = λ l. e }
+
+  pub held-end : p ≤ r → HeldTo p notes events from r
+  held-end h =
+      record { from-on = s .from-on; up-to = s .up-to; each = s .each; free = λ l. absurd (omega (arith, l, h)) }
 
 -- the others' notes stay when worker q's counts and the events change
 why-same : {t : Trace} {a : ℕ} {w w′ : Walk} {note r : ℕ} → nextOf t w′ r ≡ nextOf t w r → Why t a w note r

@@ -56,12 +56,13 @@ unfolding passes
 passes-test {t} f a events {k} l {o} e = rw (← e) (go (eqb k a) (isSync (o .kind)) refl)
   where
     go : (x y : Bool) → isSync (o .kind) ≡ y
-        → (not x && (not y || isPosted events (o .number % 256))) ≡ cond x false (cond y (isPosted events (o .number)) true)
+        → (not x && (not y || isPosted events (o .number % 256)))
+        ≡ cond x false (cond y (isPosted events (o .number)) true)
     go true y i = refl
     go false false i = refl
     go false true i = rw (mod-eq-of-lt (sync-below f l e i))
 
--- the code's nest of tests: left out, a Post, a Wait, posted
+-- the definition's nest of tests: left out, a Post, a Wait, posted
 nest-may : (x y z u : Bool) → cond x false (cond (y || z) u true) ≡ true → cond x false (cond z u true) ≡ true
 nest-may true y z u e = e
 nest-may false y false u e = refl
@@ -95,7 +96,8 @@ module _ (t : Trace) (a : ℕ) (events : List ℕ) (k : ℕ) (l : k < size t) wh
   unfolding passes isSync
   passes-keeps e = go (isPost (operation t k .kind)) refl
     where
-      go : (b : Bool) → isPost (operation t k .kind) ≡ b → cond b (withPost events (operation t k .number)) events ≡ events
+      go : (b : Bool) → isPost (operation t k .kind) ≡ b
+          → cond b (withPost events (operation t k .number)) events ≡ events
       go true i = posted-again events (operation t k .number) (nest-posted (eqb k a) _ _ _ i e)
       go false i = refl
 
@@ -115,7 +117,8 @@ module _ (t : Trace) (a : ℕ) (events : List ℕ) (k : ℕ) (l : k < size t) wh
   post-may e = rw (lt-ltb k (size t) l) (go (eqb k a) (operation t k .kind) e)
     where
       go : (x : Bool) (kind : ℕ) → cond x false (isPost kind) ≡ true
-          → (isPost kind ≡ true) × (cond x false (cond (isWait kind) (isPosted events (operation t k .number)) true) ≡ true)
+          → (isPost kind ≡ true)
+          × (cond x false (cond (isWait kind) (isPosted events (operation t k .number)) true) ≡ true)
       go true kind i = absurd (zero-one cc)
       go false kind i = let one = eqb-true kind 1 i in (i, rw one)
 

@@ -42,7 +42,7 @@ module _ {t : Trace} {a left : ℕ} {w : Walk} {q : ℕ} (d : Due t a left w q) 
       ]
 
   -- where all are, no step is left
-  pub due-none : t .workers ≤ q → size t ≤ move t a w
+  due-none : t .workers ≤ q → size t ≤ move t a w
   due-none l = elim (less? (move t a w) (size t)) [ inl h ↦ absurd (found (move-some t a w h)) | inr h ↦ h ]
     where
       found : Moved t a w → ⊥
@@ -135,7 +135,8 @@ module _ {t : Trace} {a left : ℕ} {order : List ℕ} {from : ℕ} {w : Walk} {
     gone-adds s =
         let later : suc m + s ≡ m + suc s = omega arith in
         let last : take (suc m) (drop from order) ≡ take m (drop from order) ++ k ∷ []
-        = take-suc (drop from order) m 0 (simp length-drop (omega (arith, inside))) ∙ rw (getD-drop from order m 0, at) in
+        = take-suc (drop from order) m 0 (simp length-drop (omega (arith, inside)))
+        ∙ rw (getD-drop from order m 0, at) in
         rw (later, last, append-assoc) (g .adds (suc s) ∙ rw (run-step t a (ahead w q m) s (rw moved l), step, moved))
 
 -- what the code asks of the file

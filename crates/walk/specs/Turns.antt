@@ -61,11 +61,12 @@ pub record Noted (t : Trace) (a : ℕ) (w : Walk) (notes : List ℕ) : Type 0 wh
 unfoldable pub held : ℕ → List ℕ → Bool
 held note events = not (eqb note 0) && (eqb note 257 || not (isPosted events ((note + 255) % 256)))
 
--- the workers from `from` on, below r, are held; r is below p, or none is left
+-- r is the first of the workers from `from` on, below p, that is not held; where there is none, it is not below p
 pub record HeldTo (p : ℕ) (notes events : List ℕ) (from r : ℕ) : Type 0 where
   pub from-on : from ≤ r
   pub up-to : r ≤ max from p
   pub each : (i : ℕ) → from ≤ i → i < r → held (getD notes i 0) events ≡ true
+  pub free : r < p → held (getD notes r 0) events ≡ false
 
 -- the note of a worker that stops at place `at`: by the operation there, below `end`; or at `last`, the end of its part
 unfoldable pub noteAt : Trace → List ℕ → ℕ → ℕ → ℕ → ℕ → ℕ

@@ -184,7 +184,8 @@ pub fn add(file: &[u8], k: usize, done: &mut [u16; 16], events: &mut [u64; 4]) -
     false
 }
 
-// Can a worker with this note not go on? The note names an event that is not posted, or says that it is at its end.
+// Notes, one for each worker, say why it stopped: 0, nothing is noted; e + 1, at a Wait of event e; 257, at its end.
+// Can a worker with this note not go on? Its event is not posted, or it is at its end.
 fn is_held(note: u16, events: &[u64; 4]) -> bool
     ensures { λ r. ⌜ r ≡ held note (now (events .entry)) ⌝ }
 {
@@ -238,9 +239,9 @@ fn note_at(
     0
 }
 
-// Worker q's turn, of at most `left` operations: it goes on while its operations pass, and takes a Post of an event that
-// is not posted. Answers whose turn it is then: worker 0's after such a Post, which may have freed others, and otherwise
-// the next worker's.
+// Worker q's turn, of at most `left` operations: it goes on while its operations pass, and takes a Post of an event
+// that is not posted. Answers whose turn it is then: worker 0's after such a Post, which may have freed others, and
+// otherwise the next worker's.
 pub fn turn(
     file: &[u8],
     order: &[u16; 1024],

@@ -23,7 +23,9 @@ mul-wide : tie.Need-mul-wide Inv-loop μ-loop
 mul-wide c = search needs
 
 element-copy-out-wide : tie.Need-element-copy-out-wide Inv-loop μ-loop
-element-copy-out-wide c = let (x, hq) = c .before .before .before .before .before .pre in omega (arith, hq, x .walkable .holds .most)
+element-copy-out-wide c =
+    let (x, hq) = c .before .before .before .before .before .pre in
+    omega (arith, hq, x .walkable .holds .most)
 
 wide-requires : tie.Need-wide-requires Inv-loop μ-loop
 wide-requires c κs = search needs

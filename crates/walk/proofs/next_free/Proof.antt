@@ -3,14 +3,13 @@ use mathlib.Core.Path.{sym, _∙_}
 use native.Mathlib.Omega.{arith}
 use Prim.Native.Nat.{_-_}
 use borrow.Author.Needs.{needs}
-use borrow.Author.Tests.{not-false}
-use Rattle.walk.specs.Turns.{HeldTo}
-use Rattle.walk.proofs.Notes.{held-start, held-more}
+use borrow.Author.Tests.{not-true, not-false}
+use Rattle.walk.proofs.Notes.{HeldSoFar, held-start, held-more, held-found, held-end}
 use Rattle.walk.proofs.next_free.Statement.{statement}
 use Rattle.walk.proofs.next_free.Tie as tie
 
 abbrev Inv-loop : tie.InvT-loop
-Inv-loop p notes events from q₀ q = HeldTo p notes events from q
+Inv-loop p notes events from q₀ q = HeldSoFar p notes events from q
 
 abbrev μ-loop : tie.MeasureT-loop
 μ-loop p notes events from q₀ q = p - q
@@ -28,7 +27,9 @@ is-held-requires : tie.Need-is-held-requires Inv-loop μ-loop
 is-held-requires c κs = search needs
 
 returns : tie.Need-returns Inv-loop μ-loop
-returns c = c .before .before .before .before .loop .inv
+returns c =
+    let free = sym (c .before .is-held .ensures) ∙ not-true _ (c .if1 .taken) in
+    held-found (c .before .before .before .before .loop .inv) free
 
 add-q : tie.Need-add-q Inv-loop μ-loop
 add-q c = search needs
@@ -43,7 +44,7 @@ loop-again c =
     held-more (c3 .before .loop .inv) (c3 .loop-test .taken) held
 
 returns-2 : tie.Need-returns-2 Inv-loop μ-loop
-returns-2 c = c .before .loop .inv
+returns-2 c = held-end (c .before .loop .inv) (c .loop-test .left)
 
 pub next-free-spec : {M : Type 1} → statement M
 next-free-spec =
