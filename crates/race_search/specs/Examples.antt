@@ -10,7 +10,6 @@ use Rattle.model.specs.Computed.{largestRunWithout, mustPrecedeIn}
 use Rattle.model.specs.Examples.{post, wait, readCell, writeCell}
 use Rattle.race_search.specs.Intervals.{overlap}
 use Rattle.race_search.specs.RaceList.{inConflict, isRace, pair, racesOf, racesBelow, raceList}
-use Rattle.race_search.specs.Rows.{passing, pairsBelow, pairCount}
 
 abbrev pub threeWorkers : List Operation → Trace
 threeWorkers l = record { workers = 3; operations = l }
@@ -25,8 +24,3 @@ pub list-tests : (raceList (threeWorkers (writeCell 2 5 ∷ writeCell 0 5 ∷ wr
     × (raceList (threeWorkers (writeCell 0 5 ∷ post 0 1 ∷ wait 1 1 ∷ readCell 1 5 ∷ [])) ≡ [])
 unfolding isAccess overlap inConflict isRace racesOf racesBelow raceList largestRunWithout mustPrecedeIn
 list-tests = (refl, refl, refl)
-
--- of three operations, two of one worker, two pairs are of two workers
-pub pair-tests : pairCount (threeWorkers (writeCell 2 5 ∷ writeCell 0 5 ∷ writeCell 0 6 ∷ [])) ≡ 2
-unfolding passing pairsBelow
-pair-tests = refl

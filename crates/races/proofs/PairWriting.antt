@@ -13,10 +13,10 @@ use Rattle.lent.proofs.Writing.{Written, written-none, written-part}
 use Rattle.race_search.specs.declared.Race.{Race}
 use Rattle.race_search.specs.Premises.{HoldsTable, Resumes, raceBefore}
 use Rattle.race_search.specs.RaceList.{pair, racesBelow, raceList, raceCount}
-use Rattle.race_search.specs.Rows.{CellsBelow, PlacesBelow, RowOfCells, RowOfTable, raceRow, RowHolds}
+use Rattle.race_rows.specs.Rows.{CellsBelow, PlacesBelow, RowOfCells, RowOfTable, raceRow, RowHolds}
 use Rattle.race_search.proofs.Chain.{race-operations}
-use Rattle.race_search.proofs.RowLists.{row-count, below-start, below-next, below-count, below-few}
-use Rattle.race_search.proofs.RowLists.{below-all}
+use Rattle.race_rows.proofs.RowLists.{row-count, below-start, below-next, below-count, below-few}
+use Rattle.race_rows.proofs.RowLists.{below-all}
 use Rattle.race_search.proofs.TableEntries.{table-reads}
 use Rattle.races.specs.Premises.{Writable, AllWritten}
 use Rattle.races.specs.Races.{lowers, highers}

@@ -33,16 +33,16 @@ fn count_races(file: &[u8], table: &[u16]) -> u32
     let mut first = [0u32; 1024];
     let mut last = [0u32; 1024];
     let mut writes = [0u32; 1024];
-    race_search::read_cells(file, &mut first, &mut last, &mut writes);
+    race_rows::read_cells(file, &mut first, &mut last, &mut writes);
     let mut workers = [0u8; 1024];
     let mut own = [0u16; 1024];
-    race_search::read_places(file, table, &mut workers, &mut own);
+    race_rows::read_places(file, table, &mut workers, &mut own);
     let mut marks = [0u32; 1024];
     let mut row = [0u16; 1024];
     let mut count: usize = 0;
     let mut a: usize = 0;
     while a < n {
-        count += race_search::list_row(
+        count += race_rows::list_row(
             file,
             table,
             &first,
@@ -153,16 +153,16 @@ fn write_rows(file: &[u8], table: &[u16], lower: &mut [u16], higher: &mut [u16])
     let mut first = [0u32; 1024];
     let mut last = [0u32; 1024];
     let mut writes = [0u32; 1024];
-    race_search::read_cells(file, &mut first, &mut last, &mut writes);
+    race_rows::read_cells(file, &mut first, &mut last, &mut writes);
     let mut workers = [0u8; 1024];
     let mut own = [0u16; 1024];
-    race_search::read_places(file, table, &mut workers, &mut own);
+    race_rows::read_places(file, table, &mut workers, &mut own);
     let mut marks = [0u32; 1024];
     let mut row = [0u16; 1024];
     let mut at: usize = 0;
     let mut a: usize = 0;
     while a < n {
-        let count = race_search::list_row(
+        let count = race_rows::list_row(
             file,
             table,
             &first,
@@ -197,7 +197,7 @@ fn too_many(file: &[u8], table: &[u16], room: usize) -> u32
     requires { ⌜ HoldsTable (now file) (now table) ⌝ }
     ensures { λ r. ⌜ r ≡ tooMany (raceCount (traceOf (now (file .entry)))) room ⌝ }
 {
-    if race_search::pair_count(file) <= room {
+    if race_rows::pair_count(file) <= room {
         return 0;
     }
     let count = count_races(file, table);

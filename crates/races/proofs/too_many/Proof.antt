@@ -6,7 +6,7 @@ use borrow.Author.Tests.{le-leb, lt-leb}
 use Rattle.trace.specs.Reading.{traceOf}
 use Rattle.accept.proofs.Questions.{accepted-workers}
 use Rattle.race_search.specs.RaceList.{raceCount}
-use Rattle.race_search.proofs.PairCounts.{races-pairs}
+use Rattle.race_rows.proofs.PairCounts.{races-pairs}
 use Rattle.race_search.proofs.TableEntries.{table-reads}
 use Rattle.races.proofs.too_many.Statement.{statement}
 use Rattle.races.proofs.too_many.Tie as tie

@@ -3,10 +3,10 @@ use native.Mathlib.Omega.{arith}
 use Prim.Native.Nat.{_-_}
 use borrow.Author.Needs.{needs}
 use Rattle.trace.specs.Reading.{traceOf}
-use Rattle.race_search.proofs.ArrayReading.{CellsRead, cells-start, cells-more, cells-end}
-use Rattle.race_search.proofs.RowTests.{file-few, operation-fits, operation-cells}
-use Rattle.race_search.proofs.read_cells.Statement.{statement}
-use Rattle.race_search.proofs.read_cells.Tie as tie
+use Rattle.race_rows.proofs.ArrayReading.{CellsRead, cells-start, cells-more, cells-end}
+use Rattle.race_rows.proofs.RowTests.{file-few, operation-fits, operation-cells}
+use Rattle.race_rows.proofs.read_cells.Statement.{statement}
+use Rattle.race_rows.proofs.read_cells.Tie as tie
 
 abbrev Inv-loop : tie.InvT-loop
 Inv-loop file first₀ last₀ writes₀ n k₀ first last writes k = CellsRead (traceOf file) k first last writes

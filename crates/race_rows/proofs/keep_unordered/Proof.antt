@@ -5,11 +5,11 @@ use native.Mathlib.Omega.{arith}
 use Prim.Native.Nat.{_-_}
 use borrow.Author.Needs.{needs}
 use Rattle.trace.specs.Reading.{traceOf}
-use Rattle.race_search.proofs.RowSteps.{Kept, kept-start, kept-conflict, kept-more, kept-end}
-use Rattle.race_search.proofs.RowTests.{row-inside, row-free}
+use Rattle.race_rows.proofs.RowSteps.{Kept, kept-start, kept-conflict, kept-more, kept-end}
+use Rattle.race_rows.proofs.RowTests.{row-inside, row-free}
 use Rattle.race_search.proofs.TableEntries.{table-reads, table-short}
-use Rattle.race_search.proofs.keep_unordered.Statement.{statement}
-use Rattle.race_search.proofs.keep_unordered.Tie as tie
+use Rattle.race_rows.proofs.keep_unordered.Statement.{statement}
+use Rattle.race_rows.proofs.keep_unordered.Tie as tie
 
 abbrev Inv-loop : tie.InvT-loop
 Inv-loop file table workers own a count row₀ p w own-a kept₀ i₀ row kept i = Kept (traceOf file) a count row₀ i row kept

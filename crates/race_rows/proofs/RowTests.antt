@@ -17,12 +17,12 @@ use Rattle.trace.specs.Trace.{size, operation, workerOf, isWrite, isAccess}
 use Rattle.trace.proofs.Answered.{both}
 use Rattle.trace.proofs.Answers.{file-holds}
 use Rattle.model.specs.Computed.{mustPrecedeIn, unorderedIn}
 use Rattle.race_search.specs.Intervals.{overlap}
 use Rattle.race_search.specs.Premises.{Inside, PairInTable}
 use Rattle.race_search.specs.RaceList.{inConflict, isRace}
-use Rattle.race_search.specs.Rows.{bit, firstCell, lastCell, CellsFit, Cells, conflictBit, unorderedBit}
-use Rattle.race_search.specs.Rows.{RowOfTable}
+use Rattle.race_rows.specs.Rows.{bit, firstCell, lastCell, CellsFit, Cells, conflictBit, unorderedBit}
+use Rattle.race_rows.specs.Rows.{RowOfTable}
 use Rattle.race_search.proofs.TableEntries.{pair-back, first-inside, entries-tell}
 
 -- ---- bits
 

@@ -1,7 +1,7 @@
 -- Pairs of operations of two workers. In order: how many numbers pass a test; there are no more races than such pairs;
 -- counting the pairs.
 use mathlib.Core.Bool.{Bool, true, false, not, true≢false}
-use mathlib.Core.List.{List, [], _∷_}
+use mathlib.Core.List.{List}
 use mathlib.Core.Logic.{inl, inr}
 use mathlib.Core.Path.{_≡_, refl, sym, ap, _∙_}
 use native.Mathlib.Numerals.{add-one}
@@ -13,11 +13,11 @@ use borrow.Author.Tests.{eq-eqb, ne-eqb, eqb-true, not-false}
 use Rattle.runs.proofs.Booleans.{equal?}
 use Rattle.trace.specs.Trace.{Trace, size, workerOf}
 use Rattle.model.specs.Rule.{WorkersKnown}
 use Rattle.race_search.specs.RaceList.{isRace, racesBelow, raceCount}
-use Rattle.race_search.specs.Rows.{bit, passing, isOf, pairsBelow, pairCount}
+use Rattle.race_rows.specs.Rows.{bit, passing, isOf, pairsBelow, pairCount}
 use Rattle.race_search.proofs.RaceTests.{race-same-worker, no-race-ahead}
-use Rattle.race_search.proofs.RowLists.{passing-count, passing-zero, passing-end, below-start, below-count}
-use Rattle.race_search.proofs.RowLists.{below-all}
+use Rattle.race_rows.proofs.RowLists.{passing-count, passing-zero, passing-end, below-start, below-count}
+use Rattle.race_rows.proofs.RowLists.{below-all}
 
 -- ---- how many numbers pass a test
 

@@ -1,10 +1,10 @@
 -- `list_row` meets its contract. Assumes nothing.
 use native.Mathlib.Omega.{arith}
 use borrow.Author.Needs.{needs}
-use Rattle.race_search.proofs.RowSteps.{row-no-access, row-no-conflict}
-use Rattle.race_search.proofs.RowTests.{file-few}
-use Rattle.race_search.proofs.list_row.Statement.{statement}
-use Rattle.race_search.proofs.list_row.Tie as tie
+use Rattle.race_rows.proofs.RowSteps.{row-no-access, row-no-conflict}
+use Rattle.race_rows.proofs.RowTests.{file-few}
+use Rattle.race_rows.proofs.list_row.Statement.{statement}
+use Rattle.race_rows.proofs.list_row.Tie as tie
 
 mul-if1 : tie.Need-mul-if1
 mul-if1 c =

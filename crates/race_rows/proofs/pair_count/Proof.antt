@@ -6,10 +6,10 @@ use Prim.Native.Nat.{_-_}
 use lib.ListN.{getD-replicate}
 use borrow.Author.Needs.{needs}
 use Rattle.trace.specs.Reading.{traceOf}
-use Rattle.race_search.proofs.PairCounts.{Paired, paired-none, paired-seen, paired-more, paired-all}
-use Rattle.race_search.proofs.RowTests.{file-few}
-use Rattle.race_search.proofs.pair_count.Statement.{statement}
-use Rattle.race_search.proofs.pair_count.Tie as tie
+use Rattle.race_rows.proofs.PairCounts.{Paired, paired-none, paired-seen, paired-more, paired-all}
+use Rattle.race_rows.proofs.RowTests.{file-few}
+use Rattle.race_rows.proofs.pair_count.Statement.{statement}
+use Rattle.race_rows.proofs.pair_count.Tie as tie
 
 abbrev Inv-loop : tie.InvT-loop
 Inv-loop file n seen₀ count₀ k₀ seen count k = Paired (traceOf file) k seen count

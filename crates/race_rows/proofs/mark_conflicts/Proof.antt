@@ -5,12 +5,12 @@ use Prim.Native.Nat.{_-_, _≤_}
 use borrow.Author.Needs.{needs}
 use Rattle.trace.specs.Reading.{traceOf}
 use Rattle.trace.specs.Trace.{operation}
 use Rattle.race_search.specs.RaceList.{inConflict}
-use Rattle.race_search.specs.Rows.{bit}
-use Rattle.race_search.proofs.RowSteps.{Marked, mark-start, mark-more, mark-end}
-use Rattle.race_search.proofs.RowTests.{bit-few, file-few, cells-conflict}
-use Rattle.race_search.proofs.mark_conflicts.Statement.{statement}
-use Rattle.race_search.proofs.mark_conflicts.Tie as tie
+use Rattle.race_rows.specs.Rows.{bit}
+use Rattle.race_rows.proofs.RowSteps.{Marked, mark-start, mark-more, mark-end}
+use Rattle.race_rows.proofs.RowTests.{bit-few, file-few, cells-conflict}
+use Rattle.race_rows.proofs.mark_conflicts.Statement.{statement}
+use Rattle.race_rows.proofs.mark_conflicts.Tie as tie
 
 abbrev Inv-loop : tie.InvT-loop
 Inv-loop file first last writes a marks₀ n x y w count₀ b₀ marks count b = Marked (traceOf file) a b marks count

@@ -5,13 +5,13 @@ use Prim.Native.Nat.{_-_}
 use borrow.Author.Needs.{needs}
 use Rattle.trace.specs.Reading.{traceOf}
 use Rattle.trace.specs.Trace.{size}
 use Rattle.race_search.specs.RaceList.{isRace}
 use Rattle.race_search.proofs.RaceTests.{no-race-ahead}
-use Rattle.race_search.proofs.RowSteps.{Listed, list-start, list-more, list-end}
-use Rattle.race_search.proofs.RowTests.{row-inside, row-race}
+use Rattle.race_rows.proofs.RowSteps.{Listed, list-start, list-more, list-end}
+use Rattle.race_rows.proofs.RowTests.{row-inside, row-race}
 use Rattle.race_search.proofs.TableEntries.{table-reads, table-short}
-use Rattle.race_search.proofs.list_unordered.Statement.{statement}
-use Rattle.race_search.proofs.list_unordered.Tie as tie
+use Rattle.race_rows.proofs.list_unordered.Statement.{statement}
+use Rattle.race_rows.proofs.list_unordered.Tie as tie
 
 abbrev Inv-loop : tie.InvT-loop
 Inv-loop file table workers own a marks row₀ p n w own-a count₀ b₀ row count b =

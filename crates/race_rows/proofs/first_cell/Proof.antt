@@ -1,8 +1,8 @@
 -- `first_cell` meets its contract. Assumes nothing.
 use borrow.Author.Needs.{needs}
-use Rattle.race_search.specs.Rows.{firstCell}
-use Rattle.race_search.proofs.first_cell.Statement.{statement}
-use Rattle.race_search.proofs.first_cell.Tie as tie
+use Rattle.race_rows.specs.Rows.{firstCell}
+use Rattle.race_rows.proofs.first_cell.Statement.{statement}
+use Rattle.race_rows.proofs.first_cell.Tie as tie
 
 is-access-requires : tie.Need-is-access-requires
 is-access-requires c κs = search needs

@@ -8,7 +8,7 @@ use lib.ListN.{length, getD, set, length-set}
 use lib.Seq.{getD-set-same, getD-set-other}
 use Rattle.runs.proofs.Booleans.{equal?}
 use Rattle.trace.specs.Trace.{Trace, operation, workerOf}
-use Rattle.race_search.specs.Rows.{Cells, CellsBelow, PlacesBelow}
+use Rattle.race_rows.specs.Rows.{Cells, CellsBelow, PlacesBelow}
 
 -- ---- reading the cells
 

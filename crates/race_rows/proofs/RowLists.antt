@@ -9,10 +9,10 @@ use lib.ListN.{length, getD, length-append, length-map, List·getD-append}
 use lib.Seq.{length-take-le, getD-append-seam}
 use Rattle.runs.proofs.Booleans.{equal?, less?}
 use Rattle.trace.specs.Trace.{Trace, size}
 use Rattle.race_search.specs.declared.Race.{Race}
 use Rattle.race_search.specs.RaceList.{isRace, pair, racesOf, racesBelow, raceList, raceCount}
-use Rattle.race_search.specs.Rows.{bit, passing, raceRow, RowHolds}
+use Rattle.race_rows.specs.Rows.{bit, passing, raceRow, RowHolds}
 use Rattle.race_search.proofs.RaceTests.{no-race-ahead}
 
 -- ---- the numbers that pass a test
 

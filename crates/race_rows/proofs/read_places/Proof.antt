@@ -4,11 +4,11 @@ use native.Mathlib.Omega.{arith}
 use Prim.Native.Nat.{_-_}
 use borrow.Author.Needs.{needs}
 use Rattle.trace.specs.Reading.{traceOf}
 use Rattle.race_search.specs.Premises.{Inside}
-use Rattle.race_search.proofs.ArrayReading.{PlacesRead, places-start, places-more, places-end}
+use Rattle.race_rows.proofs.ArrayReading.{PlacesRead, places-start, places-more, places-end}
 use Rattle.race_search.proofs.TableEntries.{table-reads, table-short, own-inside}
-use Rattle.race_search.proofs.read_places.Statement.{statement}
-use Rattle.race_search.proofs.read_places.Tie as tie
+use Rattle.race_rows.proofs.read_places.Statement.{statement}
+use Rattle.race_rows.proofs.read_places.Tie as tie
 
 abbrev Inv-loop : tie.InvT-loop
 Inv-loop file table workers₀ own₀ p n k₀ workers own k = PlacesRead (traceOf file) k table workers own

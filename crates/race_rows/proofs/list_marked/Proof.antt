@@ -5,11 +5,11 @@ use Prim.Native.Nat.{_-_}
 use borrow.Author.Needs.{needs}
 use Rattle.trace.specs.Reading.{traceOf}
 use Rattle.trace.specs.Trace.{size}
-use Rattle.race_search.specs.Rows.{conflictAfter}
-use Rattle.race_search.proofs.RowSteps.{Listed, list-start, list-more, list-end, conflict-ahead, conflict-mark}
-use Rattle.race_search.proofs.RowTests.{file-few}
-use Rattle.race_search.proofs.list_marked.Statement.{statement}
-use Rattle.race_search.proofs.list_marked.Tie as tie
+use Rattle.race_rows.specs.Rows.{conflictAfter}
+use Rattle.race_rows.proofs.RowSteps.{Listed, list-start, list-more, list-end, conflict-ahead, conflict-mark}
+use Rattle.race_rows.proofs.RowTests.{file-few}
+use Rattle.race_rows.proofs.list_marked.Statement.{statement}
+use Rattle.race_rows.proofs.list_marked.Tie as tie
 
 abbrev Inv-loop : tie.InvT-loop
 Inv-loop file a marks row₀ n count₀ b₀ row count b =

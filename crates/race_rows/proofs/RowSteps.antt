@@ -16,13 +16,13 @@ use Rattle.runs.proofs.Booleans.{equal?}
 use Rattle.trace.specs.Trace.{Trace, size, operation}
 use Rattle.trace.proofs.Answered.{both}
 use Rattle.model.specs.Computed.{unorderedIn}
 use Rattle.race_search.specs.RaceList.{inConflict, isRace}
-use Rattle.race_search.specs.Rows.{bit, Cells, ConflictsBelow}
-use Rattle.race_search.specs.Rows.{passing, raceRow, conflictAfter, conflictRow, RowHolds}
+use Rattle.race_rows.specs.Rows.{bit, Cells, ConflictsBelow}
+use Rattle.race_rows.specs.Rows.{passing, raceRow, conflictAfter, conflictRow, RowHolds}
 use Rattle.race_search.proofs.RaceTests.{race-access}
-use Rattle.race_search.proofs.RowLists.{passing-more, passing-same, passing-none, passing-count, passing-at}
-use Rattle.race_search.proofs.RowLists.{passing-kept, keptOf, kept-one, kept-same, row-count, row-none}
-use Rattle.race_search.proofs.RowTests.{bit-few, cells-apart}
+use Rattle.race_rows.proofs.RowLists.{passing-more, passing-same, passing-none, passing-count, passing-at}
+use Rattle.race_rows.proofs.RowLists.{passing-kept, keptOf, kept-one, kept-same, row-count, row-none}
+use Rattle.race_rows.proofs.RowTests.{bit-few, cells-apart}
 
 -- ---- marking the operations in conflict with a
 
