@@ -1,4 +1,6 @@
--- Refusals: which refusal a file gets, which has to be believed. Acceptance: which files are accepted, and what the
--- call answers; joined to Refusals, and to complete runs, by the theorems in proofs/.
+-- Refusals: which refusal a file gets. Acceptance: which files are accepted, and what the call answers; joined to
+-- Refusals, and to complete runs, by the theorems in proofs/.
+-- To be believed for the demands: `RefusedFile` (Refusals). `AcceptedTrace` is said by `accepted-means`, of `demands`,
+-- and `acceptAnswer`, the call's promise, by `reading-answers`.
 pub mod Acceptance
 pub mod Refusals

@@ -1,9 +1,9 @@
 // The answers of the calls that the C interface has, through it, as a number, a place and values, so that any two can
 // be compared.
-use capi::canonical_result::CanonicalResult;
-use capi::races_result::RacesResult;
-use capi::runs_result::RunsResult;
-use capi::table_result::TableResult;
+use c_results::canonical_result::CanonicalResult;
+use c_results::races_result::RacesResult;
+use c_results::runs_result::RunsResult;
+use c_results::table_result::TableResult;
 
 // What a call answers: the number 0 and its values, or the number and place of its refusal.
 pub struct Answer {
@@ -47,15 +47,15 @@ pub fn starts_with(memory: &[u16], due: &[u16]) -> bool {
 }
 
 pub fn accept_answer(file: &[u8]) -> Answer {
-    let r = capi::accept_result::mersohki_accept(file);
+    let r = capi::mersohki_accept(file);
     answer_of(r.number, r.place, r.workers as u32, r.operations, 0)
 }
 
 fn lend_table(file: &[u8], table: &mut [u16], size: usize) -> TableResult {
     if size <= table.len() {
-        return capi::table_result::mersohki_order_table(file, &mut table[0..size]);
+        return capi::mersohki_order_table(file, &mut table[0..size]);
     }
-    capi::table_result::mersohki_order_table(file, table)
+    capi::mersohki_order_table(file, table)
 }
 
 pub fn table_answer(file: &[u8], table: &mut [u16], size: usize) -> Answer {
@@ -78,7 +78,7 @@ fn unsigned(sign: i8) -> u32 {
 }
 
 pub fn order_answer(file: &[u8], a: u32, b: u32) -> Answer {
-    let r = capi::order_result::mersohki_pair_order(file, a, b);
+    let r = capi::mersohki_pair_order(file, a, b);
     answer_of(r.number, r.place, unsigned(r.sign), 0, 0)
 }
 
@@ -93,7 +93,7 @@ fn lend_runs(
     second_size: usize,
 ) -> RunsResult {
     if first_size <= first.len() && second_size <= second.len() {
-        return capi::runs_result::mersohki_two_runs(
+        return capi::mersohki_two_runs(
             file,
             a,
             b,
@@ -101,7 +101,7 @@ fn lend_runs(
             &mut second[0..second_size],
         );
     }
-    capi::runs_result::mersohki_two_runs(file, a, b, first, second)
+    capi::mersohki_two_runs(file, a, b, first, second)
 }
 
 pub fn runs_answer(
@@ -128,14 +128,14 @@ fn lend_races(
     higher_size: usize,
 ) -> RacesResult {
     if table_size <= table.len() && lower_size <= lower.len() && higher_size <= higher.len() {
-        return capi::races_result::mersohki_races(
+        return capi::mersohki_races(
             file,
             &mut table[0..table_size],
             &mut lower[0..lower_size],
             &mut higher[0..higher_size],
         );
     }
-    capi::races_result::mersohki_races(file, table, lower, higher)
+    capi::mersohki_races(file, table, lower, higher)
 }
 
 pub fn races_answer(
@@ -161,9 +161,9 @@ pub fn races_answer(
 
 fn lend_output(file: &[u8], output: &mut [u8], size: usize) -> CanonicalResult {
     if size <= output.len() {
-        return capi::canonical_result::mersohki_canonical(file, &mut output[0..size]);
+        return capi::mersohki_canonical(file, &mut output[0..size]);
     }
-    capi::canonical_result::mersohki_canonical(file, output)
+    capi::mersohki_canonical(file, output)
 }
 
 pub fn canonical_answer(file: &[u8], output: &mut [u8], size: usize) -> Answer {
@@ -173,6 +173,6 @@ pub fn canonical_answer(file: &[u8], output: &mut [u8], size: usize) -> Answer {
 
 // Which list the beginning is a part of, 0 the first and 1 the second, and how many numbers it has.
 pub fn prefix_answer(first: &[u16], second: &[u16], chosen: u32, other: u32) -> Answer {
-    let r = capi::beginning_result::mersohki_beginning(first, second, chosen, other);
+    let r = capi::mersohki_beginning(first, second, chosen, other);
     success(r.list, (r.length % 65536) as u32, 0)
 }

@@ -1,4 +1,7 @@
--- Returned: which part the call returns, which has to be believed. Computed: the same as the code finds it, and the
--- call's promise; joined to Returned by the theorems in proofs/Beginnings.
+-- Returned: which part the call returns. Computed: the same as the code finds it, and the call's promise; joined to
+-- Returned by the theorems in proofs/Beginnings.
+-- To be believed for the demands: all of Returned; of Computed how a part is shown, `numbersOf`, `startOf` and
+-- `asPrefix`. `BeginningCall` and `prefixOf` are promises of calls; `beginningOf` is said by `beginning-returns`, of
+-- `demands`.
 pub mod Returned
 pub mod Computed

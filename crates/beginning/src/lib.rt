@@ -67,7 +67,12 @@ pub fn beginning<'a>(first: &'a [u16], second: &'a [u16], chosen: u32, other: u3
         (first .entry .ptr) (second .entry .ptr) (now r) (r .ptr) ⌝ }
 {
     match which_prefix(first, second, chosen, other) {
-        Prefix::OfFirst { length } => &first[0..length],
+        Prefix::OfFirst { length } => {
+            if 0 < length {
+                return &first[0..length];
+            }
+            &first[0..0]
+        }
         Prefix::OfSecond { length } => &second[0..length],
     }
 }

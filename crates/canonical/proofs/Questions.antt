@@ -5,8 +5,7 @@ use mathlib.Core.Logic.{_⊎_, inl, inr}
 use mathlib.Core.Path.{_≡_}
 use Prim.Native.Nat.{ℕ, _≤_}
 use lib.ListN.{length}
-use Rattle.trace.specs.Reading.{noPlace}
-use Rattle.trace.specs.Refusals.{by-earlier, by-this}
+use Rattle.trace.specs.Refusals.{noPlace, by-earlier, by-this}
 use Rattle.trace.proofs.Outcomes.{ComesOut, asks-at-most, ask-next, pass-as}
 use Rattle.accept.proofs.Questions.{comes-out, refused-number}
 use Rattle.canonical.specs.CanonicalFile.{canonicalReading}

@@ -5,8 +5,7 @@
 use mathlib.Core.List.{List}
 use Prim.Native.Nat.{ℕ, _<_, _≤_}
 use lib.ListN.{length}
-use Rattle.trace.specs.Reading.{noPlace}
-use Rattle.trace.specs.Refusals.{RefusedNext}
+use Rattle.trace.specs.Refusals.{noPlace, RefusedNext}
 use Rattle.trace.specs.Trace.{Trace}
 use Rattle.accept.specs.Acceptance.{AcceptedTrace}
 use Rattle.accept.specs.Refusals.{RefusedFile}

@@ -11,11 +11,11 @@ use Rattle.order_table.specs.Table.{tableAnswer, tableAfter}
 use Rattle.two_runs.specs.Runs.{runsAnswer, firstAfter, secondAfter}
 use Rattle.races.specs.Races.{shorter, racesAnswer, lowerAfter, higherAfter}
 use Rattle.canonical.specs.CanonicalFile.{canonicalAnswer, outputAfter}
-use Rattle.capi.specs.declared.table_result.TableResult.{TableResult}
-use Rattle.capi.specs.declared.runs_result.RunsResult.{RunsResult}
-use Rattle.capi.specs.declared.races_result.RacesResult.{RacesResult}
-use Rattle.capi.specs.declared.canonical_result.CanonicalResult.{CanonicalResult}
-use Rattle.capi.specs.Results.{tableResult, runsResult, racesResult, canonicalResult}
+use Rattle.c_results.specs.declared.table_result.TableResult.{TableResult}
+use Rattle.c_results.specs.declared.runs_result.RunsResult.{RunsResult}
+use Rattle.c_results.specs.declared.races_result.RacesResult.{RacesResult}
+use Rattle.c_results.specs.declared.canonical_result.CanonicalResult.{CanonicalResult}
+use Rattle.c_results.specs.Results.{tableResult, runsResult, racesResult, canonicalResult}
 
 pub record TableFunction (bytes lent : List ℕ) (r : TableResult) (now : List ℕ) : Type 0 where
   pub returns : r ≡ tableResult (tableAnswer bytes lent)

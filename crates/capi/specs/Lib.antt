@@ -1,6 +1,4 @@
--- Results: the struct that each answer becomes. Functions: what the functions that write promise. Reading: how a C
--- caller reads a struct. All of it has to be believed; proofs/ shows that reading undoes Results, but for a
--- refusal by a number 0.
-pub mod Results
+-- Functions: what the C functions that write promise; the others promise the struct of what the call answers (crate
+-- `c_results`). What a C caller reads off the struct is the call's answer: `c-table` and its fellows, of `demands`.
+-- To be believed for the demands: nothing here.
 pub mod Functions
-pub mod Reading

@@ -7,14 +7,14 @@ use mathlib.Core.Path.{_≡_, refl, sym, _∙_}
 use native.Mathlib.Omega.{arith}
 use Prim.Native.Nat.{ℕ, _<_, _≤_}
 use lib.ListN.{length}
-use Rattle.trace.specs.Reading.{refused, reads, fileReading}
+use Rattle.trace.specs.Reading.{refused}
 use Rattle.trace.specs.Refusals.{by-earlier, by-this}
 use Rattle.trace.specs.Trace.{Trace, size}
 use Rattle.accept.specs.Acceptance.{AcceptedTrace, acceptAnswer}
 use Rattle.accept.specs.Acceptance as accept
 use Rattle.accept.specs.declared.AcceptAnswer.{AcceptAnswer}
 use Rattle.accept.specs.declared.AcceptAnswer.the-variants.{Accepted, Refused}
-use Rattle.accept.proofs.Answers.{answer-means, accepted-answer}
+use Rattle.accept.proofs.Answers.{answer-means}
 use Rattle.accept.proofs.Questions.{refused-file, refused-number, comes-out}
 use Rattle.lent.specs.Written.{writtenOver}
 use Rattle.order_table.specs.Table.{orderTable, tableReading, tableAnswer, TableCall}
@@ -76,11 +76,6 @@ reading-answers bytes x = outcome-exactly accept.answerOf (comes-out bytes) x
 -- Its refusal numbers are questions 1 to 10:
 pub reading-numbers : (bytes : List ℕ) (q k : ℕ) → acceptAnswer bytes ≡ Refused q k → (1 ≤ q) × (q ≤ 10)
 reading-numbers bytes q k a = refused-number (refused-file bytes q k .0 (answer-means bytes q k .0 a))
-
--- "Accepted", which other sentences speak of, is this: the file reads as t, and the answer is t's counts.
-pub accepted-means : (bytes : List ℕ) (t : Trace)
-    → AcceptedTrace bytes t ↔ ((fileReading bytes ≡ reads t) × (acceptAnswer bytes ≡ Accepted (t .workers) (size t)))
-accepted-means bytes t = accepted-answer bytes t
 
 -- For any call that keeps the order table's promise (`TableCall`), with any bytes and any table:
 module _ {bytes lent now : List ℕ} {answer : TableAnswer} (c : TableCall bytes lent answer now) where

@@ -15,18 +15,18 @@ use Rattle.two_runs.specs.Runs.{runsAnswer, RunsCall}
 use Rattle.beginning.specs.Computed.{prefixOf}
 use Rattle.races.specs.Races.{shorter, racesAnswer, RacesCall}
 use Rattle.canonical.specs.CanonicalFile.{canonicalAnswer, CanonicalCall}
-use Rattle.capi.specs.declared.accept_result.AcceptResult.{AcceptResult}
-use Rattle.capi.specs.declared.table_result.TableResult.{TableResult}
-use Rattle.capi.specs.declared.order_result.OrderResult.{OrderResult}
-use Rattle.capi.specs.declared.runs_result.RunsResult.{RunsResult}
-use Rattle.capi.specs.declared.races_result.RacesResult.{RacesResult}
-use Rattle.capi.specs.declared.canonical_result.CanonicalResult.{CanonicalResult}
-use Rattle.capi.specs.declared.beginning_result.BeginningResult.{BeginningResult}
-use Rattle.capi.specs.Reading.{acceptRead, tableRead, orderRead, runsRead, racesRead, canonicalRead, beginningRead}
+use Rattle.c_results.specs.declared.accept_result.AcceptResult.{AcceptResult}
+use Rattle.c_results.specs.declared.table_result.TableResult.{TableResult}
+use Rattle.c_results.specs.declared.order_result.OrderResult.{OrderResult}
+use Rattle.c_results.specs.declared.runs_result.RunsResult.{RunsResult}
+use Rattle.c_results.specs.declared.races_result.RacesResult.{RacesResult}
+use Rattle.c_results.specs.declared.canonical_result.CanonicalResult.{CanonicalResult}
+use Rattle.c_results.specs.declared.beginning_result.BeginningResult.{BeginningResult}
+use Rattle.c_results.specs.Reading.{acceptRead, tableRead, orderRead, runsRead, racesRead, canonicalRead, beginningRead}
 use Rattle.capi.specs.Functions.{TableFunction, RunsFunction, RacesFunction, CanonicalFunction}
-use Rattle.capi.specs.Results.{acceptResult, orderResult, beginningResult}
-use Rattle.capi.proofs.ReadBack.{accept-back, table-back, order-back, runs-back, races-back, canonical-back}
-use Rattle.capi.proofs.ReadBack.{beginning-back}
+use Rattle.c_results.specs.Results.{acceptResult, orderResult, beginningResult}
+use Rattle.c_results.proofs.ReadBack.{accept-back, table-back, order-back, runs-back, races-back, canonical-back}
+use Rattle.c_results.proofs.ReadBack.{beginning-back}
 use Rattle.demands.proofs.Demand1.{reading-numbers, table-numbers, order-numbers, runs-numbers, races-numbers}
 use Rattle.demands.proofs.Demand1.{canonical-numbers, races-as-count}
 

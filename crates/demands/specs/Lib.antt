@@ -1,6 +1,6 @@
--- Outcomes: what a call can answer, which has to be believed. Files, Starred: the starred examples of document 01, from
--- file bytes, as one list. The customer's sentences are theorems in proofs/: Demand1, Demand2, Demand3, Report and
--- Interface.
+-- Outcomes: what a call can answer. The customer's sentences are theorems in proofs/: Accepted, Demand1, Demand2,
+-- Demand3, Report and Interface. src/ ties the promises that they speak of to the calls.
+-- To be believed for the demands: all of Outcomes. The heads of the other crates' specs/ name their part: together they
+-- name what the statements in proofs/ reach, from definition to definition, up to a call's promise (which src/ pins,
+-- and the statements say in plainer words) and to what a statement says plainly.
 pub mod Outcomes
-pub mod Files
-pub mod Starred

@@ -1,4 +1,5 @@
--- What a call leaves in lent memory that it writes; a few lines that have to be believed. What is in the memory then is
--- shown in proofs/.
+-- Written: memory that is written from its start on. Left: what a call leaves in lent memory, by how its questions come
+-- out; a means. What is in the memory then is shown in proofs/.
+-- To be believed for the demands: `writtenOver` (Written).
 pub mod Written
 pub mod Left

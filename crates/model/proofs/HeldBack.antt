@@ -1,8 +1,9 @@
 -- The run that holds b back, by document 01's words. In order: a worker's next operation that may run is one that the
 -- rule lets be added; the lowest-numbered worker first; the held-back run that is computed is the one of document 01,
--- and the only one; it is complete, and what it shows of the order of a pair.
+-- and the only one; it is complete, and what it shows of the order of a pair. In document 01's words what is done, d,
+-- stands in the order in which it was done; in the theory of runs, e, the latest stands first.
 use mathlib.Core.Bool.{not}
-use mathlib.Core.List.{List}
+use mathlib.Core.List.{List, []}
 use mathlib.Core.Logic.{inl, inr, _↔_, _≢_}
 use mathlib.Core.Path.{_≡_, refl, sym}
 use native.Mathlib.Omega.{arith}
@@ -10,6 +11,7 @@ use Prim.Native.Nat.{ℕ, _<_, _≤_}
 use lib.IntN.{pos}
 use lib.ListN.{length}
 use lib.Dec.{T, eqb, eqb→eq, eqb-refl, T-not, not-T}
+use Rattle.runs.specs.Membership.{SameOperations}
 use Rattle.runs.specs.Rule.{Rule, without}
 use Rattle.runs.specs.Run.{StandsBefore}
 use Rattle.runs.specs.Steps.{Addable}
@@ -17,6 +19,7 @@ use Rattle.runs.specs.Workers.{LowestFirst, HoldsBack, none-can, moves}
 use Rattle.runs.proofs.Before.{before-asymmetric}
 use Rattle.runs.proofs.Booleans.{and-left, and-right, and-intro, less?}
 use Rattle.runs.proofs.HoldingBack.{holding-back-complete, holding-back-before, holding-back-holds, holds-back-unique}
+use Rattle.runs.proofs.Members.{done-same, same-snoc}
 use Rattle.trace.specs.Trace.{Trace, size, workerOf}
 use Rattle.model.specs.Computed.{pairOrder, heldBackRun}
 use Rattle.model.specs.Moves.{CanMove, LowestFirstRun, takes, Only, Nothing, HeldBackRun}
@@ -73,25 +76,47 @@ module _ {t : Trace} {R : Rule} {excluded : ℕ → Type 0} (s : Excludes t R ex
         allowed = m .1;
       }
 
+  -- in which order it was done makes no difference
+  can-same : {d e : List ℕ} {q x : ℕ} → SameOperations e d → CanMove t excluded d q x → CanMove t excluded e q x
+  can-same i c =
+      record {
+        next = record {
+          operation = c .next .operation;
+          own = c .next .own;
+          new = λ h. c .next .new (i .forth .all h);
+          earlier-done = λ h. i .back .all (c .next .earlier-done h);
+        };
+        may-run = record {
+          posted = λ w. let (y, h, p) = c .may-run .posted w in (y, i .back .all h, p);
+        };
+        allowed = c .allowed;
+      }
+
+  turned : {d e : List ℕ} → SameOperations e d → SameOperations d e
+  turned i = record { forth = i .back; back = i .forth }
+
   -- ---- the lowest-numbered worker first
 
-  lowest-forth : {d r : List ℕ} → LowestFirstRun t excluded d r → LowestFirst (workerOf t) R d r
-  lowest-forth (words.none-can f) = none-can (record { none = λ a. f _ _ (add-can a) })
-  lowest-forth (takes {d = d} q x c low p) =
-      moves (record { can = can-add c; lowest = λ {y} a. lowest y a }) (lowest-forth p)
+  lowest-forth : {d e r : List ℕ} → SameOperations e d → LowestFirstRun t excluded d r
+      → LowestFirst (workerOf t) R e r
+  lowest-forth i (words.none-can f) = none-can (record { none = λ a. f _ _ (can-same (turned i) (add-can a)) })
+  lowest-forth {e = e} i (takes q x c low p) =
+      moves (record { can = can-add (can-same i c); lowest = λ {y} a. lowest y a }) (lowest-forth (same-snoc i) p)
     where
-      lowest : (y : ℕ) → Addable R d y → workerOf t x ≤ workerOf t y
+      lowest : (y : ℕ) → Addable R e y → workerOf t x ≤ workerOf t y
       lowest y a = elim (less? (workerOf t y) (workerOf t x)) [
-        | inl l ↦ absurd (low (workerOf t y) y (rw (c .next .own) at l) (add-can a))
+        | inl l ↦ absurd (low (workerOf t y) y (rw (c .next .own) at l) (can-same (turned i) (add-can a)))
         | inr l ↦ l
       ]
 
-  lowest-back : {d r : List ℕ} → LowestFirst (workerOf t) R d r → LowestFirstRun t excluded d r
-  lowest-back (none-can e) = words.none-can (λ q x c. e .none (can-add c))
-  lowest-back (moves {d = d} {x = x} a p) = takes (workerOf t x) x (add-can (a .can)) low (lowest-back p)
+  lowest-back : {d e r : List ℕ} → SameOperations e d → LowestFirst (workerOf t) R e r
+      → LowestFirstRun t excluded d r
+  lowest-back i (none-can e) = words.none-can (λ q x c. e .none (can-add (can-same i c)))
+  lowest-back {d = d} i (moves {x = x} a p) =
+      takes (workerOf t x) x (can-same (turned i) (add-can (a .can))) low (lowest-back (same-snoc i) p)
     where
       low : (lower y : ℕ) → lower < workerOf t x → CanMove t excluded d lower y → ⊥
-      low lower y l c = omega (arith, a .lowest (can-add c), c .next .own)
+      low lower y l c = omega (arith, a .lowest (can-add (can-same i c)), c .next .own)
 
 -- ---- the held-back run
 
@@ -102,15 +127,15 @@ module _ (t : Trace) where
       without-b = h .without-b;
       on = h .on;
       parts = h .parts;
-      other-than-b = lowest-back (only-excluded t b) (h .other-than-b);
-      to-the-end = lowest-back (nothing-excluded t) (h .to-the-end);
+      other-than-b = lowest-back (only-excluded t b) (done-same []) (h .other-than-b);
+      to-the-end = lowest-back (nothing-excluded t) (done-same (h .without-b)) (h .to-the-end);
     },
     λ h. record {
       without-b = h .without-b;
       on = h .on;
       parts = h .parts;
-      other-than-b = lowest-forth (only-excluded t b) (h .other-than-b);
-      to-the-end = lowest-forth (nothing-excluded t) (h .to-the-end);
+      other-than-b = lowest-forth (only-excluded t b) (done-same []) (h .other-than-b);
+      to-the-end = lowest-forth (nothing-excluded t) (done-same (h .without-b)) (h .to-the-end);
     },
   )
 

@@ -1,12 +1,11 @@
 -- Runs in which the lowest-numbered worker goes first, and the run that holds an operation back.
 -- Follows: document 01, "Two runs": worker by worker, and by each worker's next operation.
--- Differs: what is excluded is a predicate of operations: b alone, then nothing. What is done, d, is read as a
--- set; the latest stands first in it.
+-- Differs: what is excluded is a predicate of operations: b alone, then nothing. What is done, d, stands in the order in
+-- which it was done.
 use mathlib.Core.List.{List, [], _∷_, _++_}
 use mathlib.Core.Path.{_≡_}
 use Prim.Native.Nat.{ℕ, _<_}
 use Rattle.runs.specs.Membership.{_∈_, _∉_}
-use Rattle.runs.specs.Steps.{done}
 use Rattle.trace.specs.Trace.{Trace, size, workerOf}
 use Rattle.model.specs.Runs.{Earlier, Waits, PostFor}
 
@@ -33,7 +32,7 @@ pub data LowestFirstRun (t : Trace) (excluded : ℕ → Type 0) : List ℕ → L
   none-can : {d : List ℕ} → ((q x : ℕ) → CanMove t excluded d q x → ⊥) → LowestFirstRun t excluded d []
   takes : {d s : List ℕ} (q x : ℕ) → CanMove t excluded d q x
       → ((lower y : ℕ) → lower < q → CanMove t excluded d lower y → ⊥)
-      → LowestFirstRun t excluded (x ∷ d) s → LowestFirstRun t excluded d (x ∷ s)
+      → LowestFirstRun t excluded (d ++ x ∷ []) s → LowestFirstRun t excluded d (x ∷ s)
 
 -- what is excluded: b alone; nothing
 abbrev pub Only : ℕ → ℕ → Type 0
@@ -49,4 +48,4 @@ pub record HeldBackRun (t : Trace) (b : ℕ) (r : List ℕ) : Type 0 where
   pub on : List ℕ
   pub parts : r ≡ without-b ++ on
   pub other-than-b : LowestFirstRun t (Only b) [] without-b
-  pub to-the-end : LowestFirstRun t Nothing (done [] without-b) on
+  pub to-the-end : LowestFirstRun t Nothing without-b on

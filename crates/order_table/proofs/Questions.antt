@@ -3,8 +3,7 @@
 use mathlib.Core.List.{List}
 use native.Mathlib.Omega.{arith}
 use Prim.Native.Nat.{ℕ, _*_, _≤_}
-use Rattle.trace.specs.Reading.{noPlace}
-use Rattle.trace.specs.Refusals.{by-earlier, by-this}
+use Rattle.trace.specs.Refusals.{noPlace, by-earlier, by-this}
 use Rattle.trace.specs.Trace.{size}
 use Rattle.trace.proofs.Outcomes.{ComesOut, asks-at-most, ask-next, pass-as}
 use Rattle.accept.proofs.Questions.{comes-out, refused-number}

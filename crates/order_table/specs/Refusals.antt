@@ -4,8 +4,7 @@
 -- question, in `trace`. proofs/Questions shows that the call refuses exactly so.
 use mathlib.Core.List.{List}
 use Prim.Native.Nat.{ℕ, _*_, _<_, _≤_}
-use Rattle.trace.specs.Reading.{noPlace}
-use Rattle.trace.specs.Refusals.{RefusedNext}
+use Rattle.trace.specs.Refusals.{noPlace, RefusedNext}
 use Rattle.trace.specs.Trace.{Trace, size}
 use Rattle.accept.specs.Acceptance.{AcceptedTrace}
 use Rattle.accept.specs.Refusals.{RefusedFile}

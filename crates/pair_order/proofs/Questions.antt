@@ -7,8 +7,8 @@ use native.Mathlib.Omega.{arith}
 use Prim.Native.Nat.{ℕ, _<_, _≤_}
 use lib.Dec.{eqb}
 use borrow.Author.Tests.{eqb-true, eqb-false, eq-eqb, ne-eqb, not-true, not-false}
-use Rattle.trace.specs.Reading.{thenAsk, noPlace}
-use Rattle.trace.specs.Refusals.{by-earlier, by-this}
+use Rattle.trace.specs.Reading.{thenAsk}
+use Rattle.trace.specs.Refusals.{noPlace, by-earlier, by-this}
 use Rattle.trace.specs.Trace.{size}
 use Rattle.trace.proofs.Outcomes.{ComesOut, Meaning, asks-below, asks-both, ask-next, pass-as}
 use Rattle.accept.specs.Acceptance.{acceptance, AcceptedTrace}

@@ -5,7 +5,8 @@ use mathlib.Core.Bool.{Bool, not, _&&_}
 use mathlib.Core.List.{List}
 use Prim.Native.Nat.{ℕ}
 use lib.Dec.{eqb, ltb}
-use Rattle.trace.specs.Reading.{Reading, refused, reads, thenAsk, noPlace}
+use Rattle.trace.specs.Reading.{Reading, refused, reads, thenAsk}
+use Rattle.trace.specs.Refusals.{noPlace}
 use Rattle.trace.specs.Trace.{Trace, size}
 use Rattle.model.specs.Computed.{pairOrder}
 use Rattle.accept.specs.Acceptance.{acceptance}

@@ -7,8 +7,7 @@ use mathlib.Core.List.{List}
 use mathlib.Core.Logic.{_⊎_, _≢_}
 use mathlib.Core.Path.{_≡_}
 use Prim.Native.Nat.{ℕ, _<_, _≤_}
-use Rattle.trace.specs.Reading.{noPlace}
-use Rattle.trace.specs.Refusals.{RefusedNext}
+use Rattle.trace.specs.Refusals.{noPlace, RefusedNext}
 use Rattle.trace.specs.Trace.{Trace, size}
 use Rattle.accept.specs.Acceptance.{AcceptedTrace}
 use Rattle.accept.specs.Refusals.{RefusedFile}

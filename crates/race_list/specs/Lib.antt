@@ -1,3 +1,4 @@
--- Listing: the call's promise, what it answers and what it leaves in lent memory, by the definitions of the crate
--- `races`; what has to be believed stands there and in `race_search`.
+-- Listing: the call's promise, `ListCall`, what it answers and what it leaves in lent memory, by the definitions of the
+-- crate `races`.
+-- To be believed for the demands: nothing here; what they rest on stands in `races` and `race_search`.
 pub mod Listing

@@ -1,5 +1,5 @@
--- Ascii, Decimal, Lines: a text, a number and lines of numbers as bytes, a few lines that have to be believed. Placed:
--- means, what the functions do.
+-- Ascii, Decimal, Lines: a text, a number and lines of numbers as bytes. Placed: means, what the functions do.
+-- To be believed for the demands: all of Ascii, Decimal and Lines.
 pub mod Ascii
 pub mod Decimal
 pub mod Lines

@@ -23,10 +23,6 @@ abbrev pub thenAsk : ℕ → (Trace → Bool) → (Trace → ℕ) → Reading �
 thenAsk number holds place (refused q k) = refused q k
 thenAsk number holds place (reads t) = cond (holds t) (reads t) (refused number (place t))
 
--- the place of a refusal is "otherwise 0"
-abbrev pub noPlace : Trace → ℕ
-noPlace t = 0
-
 -- the records behind those of the operations `before`, `left` of them, which `bytes` start with
 unfoldable pub readingFrom : Form → ℕ → List Operation → ℕ → List ℕ → Reading
 readingFrom f p before zero bytes = reads (record { workers = p; operations = before })

@@ -40,6 +40,10 @@ pub data Refusal (n q k : ℕ) : Type 0 where
   one-to-four : 1 ≤ q → q ≤ 4 → k ≡ 0 → Refusal n q k
   five-to-nine : 5 ≤ q → q ≤ 9 → k < n → Refusal n q k
 
+-- the place of a refusal is "otherwise 0"
+abbrev pub noPlace : Trace → ℕ
+noPlace t = 0
+
 -- what a call gets that asks a further question of the trace: the refusal by the first "no" of the questions before; or
 -- they let a trace pass, this one's answer is "no", and its number and place are given
 pub data RefusedNext (Before : ℕ → ℕ → Type 0) (Passed : Trace → Type 0) (number : ℕ) (No : Trace → Type 0)

@@ -4,8 +4,8 @@ use mathlib.Core.List.{List}
 use mathlib.Core.Logic.{_⊎_, inl, inr}
 use native.Mathlib.Omega.{arith}
 use Prim.Native.Nat.{ℕ, _<_, _≤_}
-use Rattle.trace.specs.Reading.{thenAsk, noPlace}
-use Rattle.trace.specs.Refusals.{by-earlier, by-this}
+use Rattle.trace.specs.Reading.{thenAsk}
+use Rattle.trace.specs.Refusals.{noPlace, by-earlier, by-this}
 use Rattle.trace.specs.Trace.{size}
 use Rattle.trace.proofs.Outcomes.{ComesOut, Meaning, asks-at-most, asks-both, ask-next, pass-as}
 use Rattle.model.specs.Orders.{MustPrecedeIn, Unordered}

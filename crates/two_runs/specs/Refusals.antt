@@ -5,8 +5,7 @@
 use mathlib.Core.List.{List}
 use mathlib.Core.Logic.{_⊎_}
 use Prim.Native.Nat.{ℕ, _<_, _≤_}
-use Rattle.trace.specs.Reading.{noPlace}
-use Rattle.trace.specs.Refusals.{RefusedNext}
+use Rattle.trace.specs.Refusals.{noPlace, RefusedNext}
 use Rattle.trace.specs.Trace.{Trace, size}
 use Rattle.model.specs.Orders.{MustPrecedeIn, Unordered}
 use Rattle.pair_order.specs.Refusals.{AcceptedPair, RefusedPair}

@@ -8,7 +8,8 @@ use mathlib.Core.Path.{_≡_}
 use Prim.Native.Nat.{ℕ}
 use lib.Dec.{leb}
 use lib.ListN.{length}
-use Rattle.trace.specs.Reading.{Reading, refused, reads, thenAsk, noPlace}
+use Rattle.trace.specs.Reading.{Reading, refused, reads, thenAsk}
+use Rattle.trace.specs.Refusals.{noPlace}
 use Rattle.trace.specs.Trace.{Trace, size}
 use Rattle.model.specs.Computed.{unorderedIn, heldBackRun}
 use Rattle.lent.specs.Left.{leftBy}

@@ -1,0 +1,1 @@
+// No code: the starred examples of document 01.
