@@ -1,8 +1,8 @@
 -- The starred examples of document 01, one list, checked against the definitions that the calls' contracts cite: from
 -- file bytes where document 01 gives a trace.
 -- Follows: document 01, "Examples": A1, A2, A3, B1, B2, C, D, E and F.
--- Differs: nowhere. F, which has no trace, is checked against the definition of a common cell. The other examples are run
--- by a program (crate `conformance`).
+-- Differs: nowhere. F, which has no trace, is checked against the definition of a common cell. The other examples are
+-- run by programs (crates `conformance`, `report` and `report_cases`).
 use mathlib.Core.List.{List, [], _∷_}
 use mathlib.Core.Path.{_≡_, refl}
 use native.Mathlib.Omega.{arith}
