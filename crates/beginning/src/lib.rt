@@ -67,6 +67,7 @@ pub fn beginning<'a>(first: &'a [u16], second: &'a [u16], chosen: u32, other: u3
         (first .entry .ptr) (second .entry .ptr) (now r) (r .ptr) ⌝ }
 {
     match which_prefix(first, second, chosen, other) {
+        // The empty part is a case of its own: where it starts is promised too.
         Prefix::OfFirst { length } => {
             if 0 < length {
                 return &first[0..length];

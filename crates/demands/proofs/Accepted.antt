@@ -1,5 +1,5 @@
--- "Accepted", which the customer's sentences speak of, said plainly: for any file, what it is to be accepted with a
--- trace t. Each element of a file that a call is lent is a byte (`Bytes`).
+-- "Accepted", which the customer's sentences speak of, said plainly: for any bytes, what it is to be accepted with a
+-- trace t. Each element of a file that a call is lent is a byte (`Bytes`): `lent_file`, of src/, ensures it.
 use mathlib.Core.List.{List}
 use mathlib.Core.Logic.{_↔_}
 use mathlib.Core.Path.{_≡_}
@@ -18,7 +18,8 @@ use Rattle.accept.proofs.Questions.{accepted-reads, accepted-complete, accepted
 
 module _ {bytes : List ℕ} (b : Bytes bytes) (t : Trace) where
   -- Questions 1 to 9 let a file pass, and it reads as t, exactly if it is the file of t, its header and its records,
-  -- and t is well-formed: of 1 to 16 workers and at most 1,024 operations, each as questions 6 to 9 want it.
+  -- and t is well-formed: of 1 to 16 workers and at most 1,024 operations, each as questions 6 to 9 want it, with a
+  -- length of two bytes.
   pub reads-means : (fileReading bytes ≡ reads t) ↔ ((bytes ≡ bytesOf base t) × WellFormed t)
   reads-means = file-means bytes t b
 

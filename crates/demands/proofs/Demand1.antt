@@ -13,7 +13,7 @@ use Rattle.trace.specs.Trace.{Trace, size}
 use Rattle.accept.specs.Acceptance.{AcceptedTrace, acceptAnswer}
 use Rattle.accept.specs.Acceptance as accept
 use Rattle.accept.specs.declared.AcceptAnswer.{AcceptAnswer}
-use Rattle.accept.specs.declared.AcceptAnswer.the-variants.{Accepted, Refused}
+use Rattle.accept.specs.declared.AcceptAnswer.the-variants.{Refused}
 use Rattle.accept.proofs.Answers.{answer-means}
 use Rattle.accept.proofs.Questions.{refused-file, refused-number, comes-out}
 use Rattle.lent.specs.Written.{writtenOver}

@@ -113,10 +113,14 @@ race-executions t a b = (
     differ : Conflict t a b → a ≢ b
     differ c e = omega (arith, c .ascending, e)
 
--- The list of an accepted trace's races, "ascending by lower, then higher, each once": there is one, and only one.
+-- The list of an accepted trace's races, "ascending by lower, then higher, each once": there is one, which `raceList`
+-- computes, and only one.
 module _ {bytes : List ℕ} {t : Trace} (h : AcceptedTrace bytes t) where
   pub race-list-exists : (l : List Race) × RaceListOf t l
   race-list-exists = (raceList t, list-of (accepted-workers h))
+
+  pub race-list-computed : RaceListOf t (raceList t)
+  race-list-computed = list-of (accepted-workers h)
 
   pub race-list-same : {l k : List Race} → RaceListOf t l → RaceListOf t k → l ≡ k
   race-list-same p q = list-only (accepted-workers h) p ∙ sym (list-only (accepted-workers h) q)

@@ -1,6 +1,7 @@
 // The calls, each with its promise. `race_list`, whose callers are proved by hand, has an equation in place of a caller
 // (proofs/RaceList).
 ghost use mathlib.Core.Path.{_≡_};
+ghost use Rattle.trace.specs.Writing.{Bytes};
 ghost use Rattle.accept.specs.Acceptance.{acceptAnswer};
 ghost use Rattle.order_table.specs.Table.{TableCall};
 ghost use Rattle.pair_order.specs.Order.{orderAnswer};
@@ -19,6 +20,13 @@ use two_runs::RunsAnswer;
 
 fn reading_call(file: &[u8]) -> AcceptAnswer
     ensures { λ r. ⌜ r ≡ acceptAnswer (now (file .entry)) ⌝ }
+{
+    accept::accept(file)
+}
+
+// Each element of a file that a call is lent is a byte, whatever is answered.
+fn lent_file(file: &[u8]) -> AcceptAnswer
+    ensures { λ r. ⌜ Bytes (now (file .entry)) ⌝ }
 {
     accept::accept(file)
 }

@@ -1,7 +1,6 @@
 -- Runs in which the lowest-numbered worker goes first, and the run that holds an operation back.
 -- Follows: document 01, "Two runs": worker by worker, and by each worker's next operation.
--- Differs: what is excluded is a predicate of operations: b alone, then nothing. What is done, d, stands in the order in
--- which it was done.
+-- Differs: what is excluded is a predicate of operations: b alone, then nothing.
 use mathlib.Core.List.{List, [], _∷_, _++_}
 use mathlib.Core.Path.{_≡_}
 use Prim.Native.Nat.{ℕ, _<_}
@@ -26,8 +25,8 @@ pub record CanMove (t : Trace) (excluded : ℕ → Type 0) (d : List ℕ) (q x :
   pub may-run : MayRun t d x
   pub allowed : excluded x → ⊥
 
--- from d done, "at each step the lowest-numbered worker whose next operation may run, other than" one excluded, "takes
--- it", until none can
+-- from d done, which stands in the order in which it was done: "at each step the lowest-numbered worker whose next
+-- operation may run, other than" one excluded, "takes it", until none can
 pub data LowestFirstRun (t : Trace) (excluded : ℕ → Type 0) : List ℕ → List ℕ → Type 0 where
   none-can : {d : List ℕ} → ((q x : ℕ) → CanMove t excluded d q x → ⊥) → LowestFirstRun t excluded d []
   takes : {d s : List ℕ} (q x : ℕ) → CanMove t excluded d q x

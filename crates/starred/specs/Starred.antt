@@ -10,8 +10,8 @@ use Prim.Native.Nat.{ℕ, _*_}
 use lib.IntN.{pos, negsuc}
 use lib.ListN.{take, drop, replicate}
 use Rattle.trace.specs.declared.Operation.{Operation}
-use Rattle.trace.specs.Examples.{fileA, traceA}
-use Rattle.trace.specs.LittleEndian.{value, digits}
+use Rattle.trace.specs.Examples.{fileA}
+use Rattle.trace.specs.LittleEndian.{value}
 use Rattle.trace.specs.Questions.{operationIn, marked, ranked, isHeader, workersFit, headerQuestion, kindKnown}
 use Rattle.trace.specs.Questions.{eventFits, cellsFit, recordQuestion}
 use Rattle.trace.specs.Reading.{reads, readingFrom, reading, fileReading}
@@ -37,16 +37,16 @@ use Rattle.starred.specs.Files.{fileB, fileC, waitThenPost, postThenWait
 abbrev pub traceWith : ℕ → List Operation → Trace
 traceWith p l = record { workers = p; operations = l }
 
--- the files are those of document 01's traces
-pub files : (fileReading fileA ≡ reads traceA)
-    × (fileReading fileB ≡ reads (traceWith 3 (writeCell 0 7 ∷ post 0 1 ∷ post 1 1 ∷ wait 2 1 ∷ readCell 2 7 ∷ [])))
+-- the files are those of document 01's traces; A's is shown in the crate `trace`
+pub files :
+    (fileReading fileB ≡ reads (traceWith 3 (writeCell 0 7 ∷ post 0 1 ∷ post 1 1 ∷ wait 2 1 ∷ readCell 2 7 ∷ [])))
     × (fileReading fileC ≡ reads (traceWith 2 (wait 0 1 ∷ post 0 2 ∷ wait 1 2 ∷ post 1 1 ∷ [])))
     × (fileReading waitThenPost ≡ reads (traceWith 1 (wait 0 1 ∷ post 0 1 ∷ [])))
     × (fileReading postThenWait ≡ reads (traceWith 1 (post 0 1 ∷ wait 0 1 ∷ [])))
     × (fileReading fileE ≡ reads (traceWith 1 []))
 unfolding value operationIn marked ranked isHeader workersFit headerQuestion ofWorker isSync isAccess kindKnown
     eventFits cellsFit recordQuestion readingFrom reading fileReading
-files = (refl, refl, refl, refl, refl, refl)
+files = (refl, refl, refl, refl, refl)
 
 -- A's seven rows
 abbrev pub rowsA : List ℕ
