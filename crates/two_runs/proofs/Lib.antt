@@ -1,6 +1,5 @@
--- Writing: a walk and a run, as the code writes them. Questions: questions 1 to 10 and 12 to 15. Answers: what the call
--- answers and leaves in the two buffers. Buffers: what is in them then.
-pub mod Writing
+-- Questions: questions 1 to 10 and 12 to 15. Answers: what the call answers and leaves in the two buffers. Buffers: what
+-- is in them then.
 pub mod Questions
 pub mod Answers
 pub mod Buffers

@@ -2,7 +2,7 @@
 -- Assumes nothing.
 use native.Mathlib.Nat.{sub-zero}
 use borrow.Author.Needs.{needs}
-use Rattle.two_runs.proofs.Writing.{front-length, run-over}
+use Rattle.run_writer.proofs.Writing.{front-length, run-over}
 use Rattle.two_runs.proofs.write_both.Statement.{statement}
 use Rattle.two_runs.proofs.write_both.Tie as tie
 

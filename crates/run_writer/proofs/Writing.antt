@@ -1,5 +1,5 @@
--- Writing the two runs. In order: the walk that is written down, turn by turn; how long a run is; the run
--- that holds an operation back, in two walks; both runs.
+-- Writing a run. In order: the walk that is written down, turn by turn; how long a run is; the run that holds an
+-- operation back, in two walks; for callers, a run at the front of a buffer.
 use mathlib.Core.List.{List, [], _++_, append-assoc, append-nil}
 use mathlib.Core.Logic.{inl, inr}
 use mathlib.Core.Path.{_≡_, sym, ap, _∙_}
@@ -26,8 +26,8 @@ use Rattle.accept.specs.Acceptance.{AcceptedTrace}
 use Rattle.accept.proofs.Questions.{accepted-workers, accepted-run}
 use Rattle.lent.specs.Written.{writtenOver}
 use Rattle.lent.proofs.Writing.{Written, written-none, written-copy, written-by, written-part, written-all}
-use Rattle.two_runs.specs.Premises.{Copies, WritesWalk, Runnable}
-use Rattle.two_runs.specs.declared.Reached.{Reached}
+use Rattle.run_writer.specs.Premises.{Copies, WritesWalk, Runnable}
+use Rattle.run_writer.specs.declared.Reached.{Reached}
 
 -- ---- a walk
 
@@ -216,7 +216,7 @@ module _ {bytes : List ℕ} {p n : ℕ} {order starts : List ℕ} (h : Runnable 
         let w = written-part front rest long (omega (arith, reached-few)) in
         written-all w (omega (arith, w .size, l, reached-few)) ∙ rw rest-is together
 
--- ---- both runs: each goes to the first m = n numbers of its buffer
+-- ---- for callers: a run goes to the first m = n numbers of a buffer
 
 pub front-length : {m n : ℕ} → m ≡ n → (old : List ℕ) → n ≤ length old → length (take m (drop 0 old)) ≡ n
 front-length {m} e old l = length-take-le m old (omega (arith, e)) ∙ e

@@ -3,9 +3,9 @@
 use mathlib.Core.Path.{refl}
 use native.Mathlib.Omega.{arith}
 use borrow.Author.Needs.{needs}
-use Rattle.two_runs.proofs.Writing.{reached-few, reached-length, run-written}
-use Rattle.two_runs.proofs.write_run.Statement.{statement}
-use Rattle.two_runs.proofs.write_run.Tie as tie
+use Rattle.run_writer.proofs.Writing.{reached-few, reached-length, run-written}
+use Rattle.run_writer.proofs.write_run.Statement.{statement}
+use Rattle.run_writer.proofs.write_run.Tie as tie
 
 start-walk-requires : tie.Need-start-walk-requires
 start-walk-requires c κs = search needs

@@ -11,10 +11,10 @@ use Rattle.walk.specs.Turns.{Noted}
 use Rattle.walk.specs.Walks.{stateOf}
 use Rattle.walk.proofs.Notes.{noted-start}
 use Rattle.walk.proofs.Ways.{way-asks}
-use Rattle.two_runs.proofs.Writing.{WalkedSoFar, walked-none, taken-is, turn-copies, walked-less}
-use Rattle.two_runs.proofs.Writing.{walked-turn, walked-free, walked-end}
-use Rattle.two_runs.proofs.write_walk.Statement.{statement}
-use Rattle.two_runs.proofs.write_walk.Tie as tie
+use Rattle.run_writer.proofs.Writing.{WalkedSoFar, walked-none, taken-is, turn-copies, walked-less}
+use Rattle.run_writer.proofs.Writing.{walked-turn, walked-free, walked-end}
+use Rattle.run_writer.proofs.write_walk.Statement.{statement}
+use Rattle.run_writer.proofs.write_walk.Tie as tie
 
 abbrev Inv-loop : tie.InvT-loop
 Inv-loop file p n order starts left-out part₀ done₀ events₀ notes₀ at₀ q₀ part done events notes at q =

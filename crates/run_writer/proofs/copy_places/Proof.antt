@@ -4,9 +4,9 @@ use Prim.Native.Nat.{_-_}
 use lib.ListN.{length, take, drop}
 use borrow.Author.Needs.{needs}
 use Rattle.lent.proofs.Writing.{Written, written-none}
-use Rattle.two_runs.proofs.Writing.{copied-more, copied-all}
-use Rattle.two_runs.proofs.copy_places.Statement.{statement}
-use Rattle.two_runs.proofs.copy_places.Tie as tie
+use Rattle.run_writer.proofs.Writing.{copied-more, copied-all}
+use Rattle.run_writer.proofs.copy_places.Statement.{statement}
+use Rattle.run_writer.proofs.copy_places.Tie as tie
 
 abbrev Inv-loop : tie.InvT-loop
 Inv-loop order from part₀ i₀ part i = Written i (take i (drop from order)) part₀ part
