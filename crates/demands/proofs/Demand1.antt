@@ -17,7 +17,8 @@ use Rattle.accept.specs.declared.AcceptAnswer.the-variants.{Refused}
 use Rattle.accept.proofs.Answers.{answer-means}
 use Rattle.accept.proofs.Questions.{refused-file, refused-number, comes-out}
 use Rattle.lent.specs.Written.{writtenOver}
-use Rattle.order_table.specs.Table.{orderTable, tableReading, tableAnswer, TableCall}
+use Rattle.table_rows.specs.Rows.{orderTable}
+use Rattle.order_table.specs.Table.{tableReading, tableAnswer, TableCall}
 use Rattle.order_table.specs.Table as order-table
 use Rattle.order_table.specs.declared.TableAnswer.{TableAnswer}
 use Rattle.order_table.specs.declared.TableAnswer.the-variants as table

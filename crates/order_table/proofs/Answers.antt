@@ -18,7 +18,8 @@ use Rattle.accept.proofs.Questions.{accepted-trace, accepted-holds}
 use Rattle.lent.specs.Left.{leftBy}
 use Rattle.lent.specs.Written.{writtenOver}
 use Rattle.order_table.specs.declared.TableAnswer.the-variants.{Filled, Refused}
-use Rattle.order_table.specs.Table.{orderTable, tableReading, answerOf, tableAnswer, tableAfter}
+use Rattle.table_rows.specs.Rows.{orderTable}
+use Rattle.order_table.specs.Table.{tableReading, answerOf, tableAnswer, tableAfter}
 use Rattle.order_table.specs.Table.{TableCall}
 use Rattle.order_table.specs.Refusals.{AcceptedTable, RefusedTable}
 use Rattle.order_table.proofs.Questions.{table-comes-out}

@@ -18,10 +18,11 @@ use Rattle.lent.specs.Written.{writtenOver}
 use Rattle.lent.proofs.Left.{left-length}
 use Rattle.lent.proofs.Writing.{written-past}
 use Rattle.order_table.specs.Refusals.{AcceptedTable}
-use Rattle.order_table.specs.Table.{orderTable, tableReading, tableAfter}
+use Rattle.table_rows.specs.Rows.{orderTable}
+use Rattle.order_table.specs.Table.{tableReading, tableAfter}
 use Rattle.order_table.proofs.Questions.{table-comes-out}
 use Rattle.order_table.proofs.Answers.{call-by}
-use Rattle.order_table.proofs.Rows.{rows-length, rows-part}
+use Rattle.table_rows.proofs.Rows.{rows-length, rows-part}
 
 -- ---- after any call
 

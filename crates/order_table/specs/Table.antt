@@ -1,30 +1,21 @@
--- The order table: its rows, question 11, what the call answers, and what it leaves in the lent table.
+-- The order table: question 11, what the call answers, and what it leaves in the lent table.
 -- Follows: document 01, "The questions" and "Order table and order". The enum is that of src/lib.rt.
--- Differs: nowhere. `row t k` is in the crate `model`, computed; proofs/Entries shows what the entries count, in
--- maximal valid executions.
+-- Differs: nowhere. The rows are in the crate `table_rows`; proofs/Entries shows what the entries count, in maximal
+-- valid executions.
 use mathlib.Core.Bool.{Bool}
-use mathlib.Core.List.{List, [], _++_}
+use mathlib.Core.List.{List}
 use mathlib.Core.Path.{_≡_}
-use Prim.Native.Nat.{ℕ, zero, suc, _*_}
+use Prim.Native.Nat.{ℕ, _*_}
 use lib.Dec.{leb}
 use lib.ListN.{length}
 use Rattle.trace.specs.Reading.{Reading, refused, reads, thenAsk}
 use Rattle.trace.specs.Refusals.{noPlace}
 use Rattle.trace.specs.Trace.{Trace, size}
-use Rattle.model.specs.Computed.{row}
 use Rattle.accept.specs.Acceptance.{acceptance}
 use Rattle.lent.specs.Left.{leftBy}
+use Rattle.table_rows.specs.Rows.{orderTable}
 use Rattle.order_table.specs.declared.TableAnswer.{TableAnswer}
 use Rattle.order_table.specs.declared.TableAnswer.the-variants.{Filled, Refused}
-
--- the rows of the operations below k, one behind the other
-unfoldable pub rows : Trace → ℕ → List ℕ
-rows t zero = []
-rows t (suc k) = rows t k ++ row t k
-
--- document 01: "The table has n rows."
-abbrev pub orderTable : Trace → List ℕ
-orderTable t = rows t (size t)
 
 -- 11. "Does the lent table hold at least n × p numbers?" It holds `room` numbers.
 abbrev pub hasRoom : ℕ → Trace → Bool

@@ -21,7 +21,8 @@ use Rattle.model.specs.Computed.{heldBackRun}
 use Rattle.model.specs.Examples.{post, wait, readCell, writeCell}
 use Rattle.accept.specs.declared.AcceptAnswer.the-variants.{Accepted, Refused}
 use Rattle.accept.specs.Acceptance.{acceptance, acceptAnswer}
-use Rattle.order_table.specs.Table.{rows, tableReading, tableAnswer, tableAfter}
+use Rattle.table_rows.specs.Rows.{rows}
+use Rattle.order_table.specs.Table.{tableReading, tableAnswer, tableAfter}
 use Rattle.pair_order.specs.declared.OrderAnswer.the-variants.{Ordered}
 use Rattle.pair_order.specs.Order.{pairReading, orderAnswer}
 use Rattle.two_runs.specs.Runs.{runsReading, firstAfter, secondAfter}

@@ -5,8 +5,8 @@ use Prim.Native.Nat.{ℕ, _-_}
 use lib.ListN.{length, take}
 use borrow.Author.Needs.{needs}
 use Rattle.lent.proofs.Writing.{Written, written-none, written-copy, written-all}
-use Rattle.order_table.proofs.write_row.Statement.{statement}
-use Rattle.order_table.proofs.write_row.Tie as tie
+use Rattle.table_rows.proofs.write_row.Statement.{statement}
+use Rattle.table_rows.proofs.write_row.Tie as tie
 
 abbrev Inv-loop : tie.InvT-loop
 Inv-loop done part₀ q₀ part q = Written q (take q done) part₀ part

@@ -4,10 +4,10 @@ use Prim.Native.Nat.{_-_, _≤_}
 use lib.ListN.{getD}
 use borrow.Author.Needs.{needs}
 use Rattle.trace.specs.Reading.{traceOf}
-use Rattle.order_table.specs.Filling.{RowsTo}
-use Rattle.order_table.proofs.Keeping.{workers-start, workers-all}
-use Rattle.order_table.proofs.fill.Statement.{statement}
-use Rattle.order_table.proofs.fill.Tie as tie
+use Rattle.table_rows.specs.Filling.{RowsTo}
+use Rattle.table_rows.proofs.Keeping.{workers-start, workers-all}
+use Rattle.table_rows.proofs.fill.Statement.{statement}
+use Rattle.table_rows.proofs.fill.Tie as tie
 
 abbrev Inv-loop : tie.InvT-loop
 Inv-loop file p n table₀ order starts q₀ table q =

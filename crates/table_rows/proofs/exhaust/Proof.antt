@@ -1,7 +1,7 @@
 -- `exhaust` meets its contract. Assumes nothing.
-use Rattle.order_table.proofs.Keeping.{exhausted-walk, exhausted-still}
-use Rattle.order_table.proofs.exhaust.Statement.{statement}
-use Rattle.order_table.proofs.exhaust.Tie as tie
+use Rattle.table_rows.proofs.Keeping.{exhausted-walk, exhausted-still}
+use Rattle.table_rows.proofs.exhaust.Statement.{statement}
+use Rattle.table_rows.proofs.exhaust.Tie as tie
 
 walk-on-requires : tie.Need-walk-on-requires
 walk-on-requires c κs =

@@ -26,9 +26,9 @@ use Rattle.simulation.specs.Shows.{Exhausted, Kept}
 use Rattle.simulation.proofs.Along.{lacking-start, lacking-walk, exhausted-row, own-count, along-next}
 use Rattle.accept.proofs.Questions.{accepted-run}
 use Rattle.lent.specs.Written.{writtenOver}
-use Rattle.order_table.specs.Filling.{RoomAt, Fillable, rowPut, placeOf, RowsTo, FillsPart}
-use Rattle.order_table.specs.Table.{orderTable}
-use Rattle.order_table.proofs.Rows.{put-length, rows-more, rows-all}
+use Rattle.table_rows.specs.Filling.{RoomAt, Fillable, rowPut, placeOf, RowsTo, FillsPart}
+use Rattle.table_rows.specs.Rows.{orderTable}
+use Rattle.table_rows.proofs.Rows.{put-length, rows-more, rows-all}
 
 -- the rows of worker q's operations before place `at` are written, and the walk is kept for the one there
 pub record KeptTo (t : Trace) (order starts : List ℕ) (q at : ℕ) (w : Walk) (notes : List ℕ) (freed : Bool)

@@ -5,9 +5,9 @@ use Prim.Native.Nat.{_-_}
 use borrow.Author.Needs.{needs}
 use Rattle.trace.specs.Reading.{traceOf}
 use Rattle.walk.specs.Walks.{stateOf}
-use Rattle.order_table.proofs.Keeping.{KeptTo, place-few, row-room, add-asks, kept-more, kept-start, kept-end}
-use Rattle.order_table.proofs.fill_worker.Statement.{statement}
-use Rattle.order_table.proofs.fill_worker.Tie as tie
+use Rattle.table_rows.proofs.Keeping.{KeptTo, place-few, row-room, add-asks, kept-more, kept-start, kept-end}
+use Rattle.table_rows.proofs.fill_worker.Statement.{statement}
+use Rattle.table_rows.proofs.fill_worker.Tie as tie
 
 abbrev Inv-loop : tie.InvT-loop
 Inv-loop file p n order starts q table₀ done₀ events₀ notes₀ freed₀ at₀ end table done events notes freed at =

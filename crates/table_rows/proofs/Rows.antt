@@ -18,8 +18,8 @@ use Rattle.model.specs.Computed.{row}
 use Rattle.model.proofs.TableRows.{row-length}
 use Rattle.lent.specs.Written.{writtenOver}
 use Rattle.lent.proofs.Writing.{written-length, written-past}
-use Rattle.order_table.specs.Filling.{rowPut, placeOf, RowsTo}
-use Rattle.order_table.specs.Table.{rows, orderTable}
+use Rattle.table_rows.specs.Filling.{rowPut, placeOf, RowsTo}
+use Rattle.table_rows.specs.Rows.{rows, orderTable}
 
 -- ---- the rows
 

@@ -6,8 +6,8 @@ use Prim.Native.Nat.{_*_, _+_, _-_}
 use lib.ListN.{length, length-drop, take, drop}
 use lib.Seq.{length-take-le}
 use borrow.Author.Needs.{needs}
-use Rattle.order_table.proofs.put_row.Statement.{statement}
-use Rattle.order_table.proofs.put_row.Tie as tie
+use Rattle.table_rows.proofs.put_row.Statement.{statement}
+use Rattle.table_rows.proofs.put_row.Tie as tie
 
 -- the part has p numbers
 width : (s : tie.Start)

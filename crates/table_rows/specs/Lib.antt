@@ -1,0 +1,4 @@
+-- Rows: the order table. Filling: means, what the functions know and do.
+-- To be believed for the demands: nothing here. `orderTable` is said by `table-entry`, of `demands`.
+pub mod Rows
+pub mod Filling
