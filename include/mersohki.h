@@ -40,8 +40,9 @@ enum mersohki_limit {
 
 /*
  * The questions. They are asked in this order, 5 to 9 of one record after the other, and the first "no" is the refusal.
- * A refusal is the question's number and a place: for 5 to 9 the operation's number in the file, for 10 the lowest
- * operation that no run has, for 16 how many races there are, and otherwise 0.
+ * 1 to 10 are the file's questions, which every call asks that takes a file; the others are a call's own. A refusal is
+ * the question's number and a place: for 5 to 9 the operation's number in the file, for 10 the lowest operation that no
+ * run has, for 16 how many races there are, and otherwise 0.
  */
 enum mersohki_question {
     MERSOHKI_NOT_REFUSED = 0,
@@ -70,33 +71,33 @@ enum mersohki_question {
  */
 
 struct mersohki_accept_result {
-    uint8_t number;      /* 0, or one of 1 to 10 */
+    uint8_t number;      /* 0, or one of the file's questions */
     uint32_t place;
     uint8_t workers;
     uint32_t operations;
 };
 
 struct mersohki_table_result {
-    uint8_t number;      /* 0, or one of 1 to 11 */
+    uint8_t number;      /* 0, one of the file's questions, or 11 */
     uint32_t place;
     uint8_t workers;
     uint32_t operations;
 };
 
 struct mersohki_order_result {
-    uint8_t number;      /* 0, or one of 1 to 10, 12 and 13 */
+    uint8_t number;      /* 0, one of the file's questions, 12 or 13 */
     uint32_t place;
     int8_t sign;         /* -1: a is certain before b; +1: b before a; 0: neither, or refused */
 };
 
 struct mersohki_runs_result {
-    uint8_t number;      /* 0, or one of 1 to 10 and 12 to 15 */
+    uint8_t number;      /* 0, one of the file's questions, or 12 to 15 */
     uint32_t place;
     uint32_t operations; /* the length of each run */
 };
 
 struct mersohki_races_result {
-    uint8_t number;      /* 0, or one of 1 to 11 and 16 */
+    uint8_t number;      /* 0, one of the file's questions, 11 or 16 */
     uint32_t place;
     uint8_t workers;
     uint32_t operations;
@@ -104,7 +105,7 @@ struct mersohki_races_result {
 };
 
 struct mersohki_canonical_result {
-    uint8_t number;      /* 0, or one of 1 to 10 and 17 */
+    uint8_t number;      /* 0, one of the file's questions, or 17 */
     uint32_t place;
     uint32_t size;       /* bytes of the tidy file, which are as many as the file's */
 };

@@ -1,4 +1,4 @@
--- Question 10 as the code asks it, of a file that questions 1 to 9 let pass. In order: the walk that leaves nothing
+-- Question 10 as the code asks it, of a file that reads as a trace. In order: the walk that leaves nothing
 -- out; the answer.
 use mathlib.Core.List.{List}
 use mathlib.Core.Path.{_≡_}

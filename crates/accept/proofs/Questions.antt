@@ -1,18 +1,18 @@
--- What acceptance means. In order: accepted files; files that questions 1 to 9 let pass: question 10 and its place;
+-- What acceptance means. In order: accepted files; files that read as a trace: question 10 and its place;
 -- which refusals there are. What the answer says is in Answers.
-use mathlib.Core.List.{List}
+use mathlib.Core.List.{List, [], _∷_, List·Memᴰ·head, Memᴰ·append-left, Memᴰ·append-right}
 use mathlib.Core.Logic.{inl, inr, _↔_}
 use mathlib.Core.Path.{_≡_, refl, sym, _∙_}
-use native.Mathlib.Omega.{arith}
 use Prim.Native.Nat.{ℕ, _<_, _≤_}
-use Rattle.runs.proofs.Booleans.{less?}
+use Rattle.basics.specs.Membership.{_∈_}
+use Rattle.basics.proofs.Booleans.{less?}
 use Rattle.trace.specs.Premises.{HoldsTrace}
 use Rattle.trace.specs.Reading.{refused, reads, fileReading, traceOf}
-use Rattle.trace.specs.Refusals.{Refusal, one-to-four, five-to-nine, RefusedNext, by-earlier, by-this}
+use Rattle.trace.specs.Refusals.{RefusedNext, by-earlier, by-this, readingNumbers, fileNumbers}
 use Rattle.trace.specs.Trace.{Trace, size}
 use Rattle.trace.proofs.Answers.{trace-reads, file-holds}
 use Rattle.trace.proofs.Outcomes.{refused-reads, ComesOut, asks-at-most, ask-next}
-use Rattle.trace.proofs.Refusals.{file-refused-first, file-refused}
+use Rattle.trace.proofs.Refusals.{file-refused-first, reading-number}
 use Rattle.model.specs.Computed.{largestRun, firstOutside}
 use Rattle.model.specs.LargestRuns.{LowestOutside}
 use Rattle.model.specs.Rule.{WorkersKnown}
@@ -24,7 +24,7 @@ use Rattle.accept.specs.Refusals.{RefusedFile, by-reading, by-runs}
 
 -- ---- accepted files
 
--- questions 1 to 10: 10 asks whether no operation is outside the largest run
+-- the file's questions: 10 asks whether no operation is outside the largest run
 asked : (bytes : List ℕ)
     → ComesOut
     (acceptance bytes)
@@ -37,7 +37,7 @@ asked bytes =
     ask-next 10 firstOutside (asks-at-most size firstOutside)
     (record { passes = λ t. (λ e. e, λ e. e); refuses = λ q k. (λ e. e, λ e. e) })
 
--- questions 1 to 9 let it pass, and no operation is outside the largest run
+-- it reads as the trace, and no operation is outside the largest run
 passed : {bytes : List ℕ} {t : Trace} → AcceptedTrace bytes t
     → (fileReading bytes ≡ reads t) × (size t ≤ firstOutside t)
 passed {bytes} {t} a = asked bytes .passes t .0 (a .passes)
@@ -60,7 +60,7 @@ pub accepted-limits : {bytes : List ℕ} {t : Trace} → AcceptedTrace bytes t
     → (1 ≤ t .workers) × (t .workers ≤ 16) × (size t ≤ 1024)
 accepted-limits a = let h = accepted-holds a in (h .some, h .most, h .few)
 
--- ---- files that questions 1 to 9 let pass
+-- ---- files that read as a trace
 
 module _ (bytes : List ℕ) (t : Trace) (e : fileReading bytes ≡ reads t) where
   workers : WorkersKnown t
@@ -127,16 +127,12 @@ refused-file bytes q k = (λ i. forth i (asked bytes .refuses q k .0 i), back)
     back (by-reading r) = asked bytes .refuses q k .1 (by-earlier (file-refused-first bytes q k .1 r))
     back (by-runs t e n o) = rw n (refused-place bytes t e k .1 o)
 
--- how questions 1 to 10 come out
+-- how the file's questions come out
 pub comes-out : (bytes : List ℕ) → ComesOut (acceptance bytes) (AcceptedTrace bytes) (RefusedFile bytes)
 comes-out bytes =
     record { passes = λ t. (λ e. record { passes = e }, λ a. a .passes); refuses = refused-file bytes }
 
 -- their numbers
-pub refused-number : {bytes : List ℕ} {q k : ℕ} → RefusedFile bytes q k → (1 ≤ q) × (q ≤ 10)
-refused-number {bytes} {q} {k} (by-reading r) = go (file-refused bytes q k (file-refused-first bytes q k .1 r))
-  where
-    go : {n : ℕ} → Refusal n q k → (1 ≤ q) × (q ≤ 10)
-    go (one-to-four h l z) = (omega arith, omega arith)
-    go (five-to-nine h l z) = (omega arith, omega arith)
-refused-number (by-runs t e n o) = (omega arith, omega arith)
+pub refused-number : {bytes : List ℕ} {q k : ℕ} → RefusedFile bytes q k → q ∈ fileNumbers
+refused-number {bytes} {q} {k} (by-reading r) = Memᴰ·append-left (10 ∷ []) (reading-number bytes q k r)
+refused-number (by-runs t e n o) = Memᴰ·append-right readingNumbers (List·Memᴰ·head n)

@@ -1,8 +1,8 @@
--- Questions 1 to 10 of a file: which files are accepted, and what the call answers.
+-- The questions of a file: which files are accepted, and what the call answers.
 -- Follows: document 01, "The questions". The enum is that of src/lib.rt.
--- Differs: question 10 is asked of what is computed, `firstOutside`. That a file which questions 1 to 9 let pass is
--- refused 10 exactly if its trace has no complete run, and that the place is the lowest operation outside every largest
--- run, is shown in proofs/Questions.
+-- Differs: question 10 is asked of what is computed, `firstOutside`. That a file which reads as a trace is refused
+-- 10 exactly if its trace has no complete run, and that the place is the lowest operation outside every largest run, is
+-- shown in proofs/Questions.
 use mathlib.Core.Bool.{Bool}
 use mathlib.Core.List.{List}
 use mathlib.Core.Path.{_≡_}
@@ -18,7 +18,7 @@ use Rattle.accept.specs.declared.AcceptAnswer.the-variants.{Accepted, Re
 abbrev pub noneOutside : Trace → Bool
 noneOutside t = leb (size t) (firstOutside t)
 
--- questions 1 to 10: the refusal by the first "no", or the trace; the place of 10 is "the lowest operation number
+-- the file's questions: the refusal by the first "no", or the trace; the place of 10 is "the lowest operation number
 -- outside the largest run"
 unfoldable pub acceptance : List ℕ → Reading
 acceptance bytes = thenAsk 10 noneOutside firstOutside (fileReading bytes)

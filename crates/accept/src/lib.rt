@@ -1,4 +1,4 @@
-// Questions 1 to 10 of any bytes: reading a file, with which every other call starts.
+// The questions that every call asks of a file first, of any bytes; reading a file asks no others.
 ghost use mathlib.Core.Path.{_≡_};
 ghost use Rattle.trace.specs.Premises.{HoldsTrace};
 ghost use Rattle.trace.specs.Reading.{traceOf};
@@ -25,7 +25,7 @@ fn first_outside(file: &[u8], p: usize, n: usize) -> usize
     walk::lowest_left(file, p, n, &order, &starts, end)
 }
 
-// Question 10 of a file that questions 1 to 9 do not refuse.
+// Question 10 of a file that reads as a trace.
 fn accept_if_complete(file: &[u8], workers: u8, operations: u32) -> AcceptAnswer
     requires { ⌜ HoldsTrace (now file) workers operations ⌝ }
     ensures { λ r. ⌜ r ≡ acceptAnswer (now (file .entry)) ⌝ }
@@ -44,7 +44,7 @@ fn accept_if_complete(file: &[u8], workers: u8, operations: u32) -> AcceptAnswer
     }
 }
 
-// Questions 1 to 10 of any bytes.
+// Asks the file's questions, of any bytes.
 pub fn accept(file: &[u8]) -> AcceptAnswer
     ensures { λ r. ⌜ r ≡ acceptAnswer (now (file .entry)) ⌝ }
 {

@@ -8,7 +8,7 @@ use Prim.Native.Nat.{ℕ, _<_, _≤_}
 use lib.ListN.{length}
 use lib.Seq.{length-take-le}
 use borrow.Author.Tests.{lt-ltb, le-ltb}
-use Rattle.runs.proofs.Booleans.{less?}
+use Rattle.basics.proofs.Booleans.{less?}
 use Rattle.beginning.specs.declared.Prefix.{Prefix}
 use Rattle.beginning.specs.declared.Prefix.the-variants.{OfFirst, OfSecond}
 use Rattle.beginning.specs.Returned.{NoBeginning, Part, Returned, by-first, by-second, by-neither}

@@ -9,9 +9,9 @@ use Prim.Native.Nat.{ℕ, suc, _+_, _<_, _≤_}
 use lib.ListN.{length, drop, getD, length-append}
 use lib.Seq.{drop-cons, drop-length}
 use borrow.Author.Tests.{eq-eqb, ne-eqb}
-use Rattle.runs.specs.Membership.{_∈_, _∉_}
-use Rattle.runs.proofs.Booleans.{equal?}
-use Rattle.runs.proofs.Members.{there, in?}
+use Rattle.basics.specs.Membership.{_∈_, _∉_}
+use Rattle.basics.proofs.Booleans.{equal?}
+use Rattle.basics.proofs.Members.{there, in?}
 use Rattle.beginning.specs.Computed.{firstIndex}
 
 -- ---- at the head

@@ -8,8 +8,8 @@ use Prim.Native.Nat.{ℕ, _+_, _<_, _≤_}
 use lib.ListN.{length, take, length-append}
 use lib.Seq.{take-at, append-snoc}
 use borrow.Author.Tests.{lt-ltb, le-ltb}
-use Rattle.runs.specs.Membership.{_∉_}
-use Rattle.runs.proofs.Booleans.{less?}
+use Rattle.basics.specs.Membership.{_∉_}
+use Rattle.basics.proofs.Booleans.{less?}
 use Rattle.beginning.specs.Returned.{BeginningOf, NoBeginning}
 use Rattle.beginning.specs.Computed.{firstIndex, beginningLength}
 use Rattle.beginning.proofs.Indices.{index-appears, CutAtFirst, cut-at-first, cut-length}

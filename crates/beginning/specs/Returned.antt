@@ -5,7 +5,7 @@ use mathlib.Core.List.{List, [], _∷_, _++_}
 use mathlib.Core.Logic.{_≢_}
 use mathlib.Core.Path.{_≡_}
 use Prim.Native.Nat.{ℕ}
-use Rattle.runs.specs.Membership.{_∈_, _∉_}
+use Rattle.basics.specs.Membership.{_∈_, _∉_}
 
 -- document 01: "the part of the .. list that ends with the chosen number's first appearance, if the two numbers differ,
 -- the other appears after it and not before it"

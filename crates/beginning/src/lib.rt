@@ -8,20 +8,13 @@ pub enum Prefix {
     OfSecond { length: usize },
 }
 
-// A 16-bit number of a list, as wide as the numbers that it is compared with.
-fn wide(x: u16) -> u32
-    ensures { λ r. ⌜ r ≡ x ⌝ }
-{
-    x as u32
-}
-
 // The index of the first appearance of x, or the list's length where it does not appear.
 fn first_index(list: &[u16], x: u32) -> usize
     ensures { λ r. ⌜ r ≡ firstIndex (now (list .entry)) x ⌝ }
 {
     let mut i = 0;
     while i < list.len() {
-        if wide(list[i]) == x {
+        if basics::wide(list[i]) == x {
             return i;
         }
         i += 1;

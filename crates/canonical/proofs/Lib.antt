@@ -1,5 +1,5 @@
 -- ByWorker, Renumbered, ReadBack: the tidy file's trace, and that it is read back. Writing: the file as the code
--- writes it. Questions: questions 1 to 10 and 17. Answers: what the call answers and leaves in the lent output.
+-- writes it. Questions: the file's questions and 17. Answers: what the call answers and leaves in the lent output.
 -- Outputs: what is in it then.
 pub mod ByWorker
 pub mod Renumbered

@@ -1,12 +1,11 @@
--- Questions 1 to 10 and 17 of a file and a lent output. In order: when none refuses, and when one does; which refusals
--- there are.
-use mathlib.Core.List.{List}
-use mathlib.Core.Logic.{_⊎_, inl, inr}
-use mathlib.Core.Path.{_≡_}
-use Prim.Native.Nat.{ℕ, _≤_}
+-- The file's questions, and 17 of a lent output. In order: when none refuses, and when one does; which
+-- refusals there are.
+use mathlib.Core.List.{List, [], _∷_, _++_}
+use Prim.Native.Nat.{ℕ}
 use lib.ListN.{length}
-use Rattle.trace.specs.Refusals.{noPlace, by-earlier, by-this}
-use Rattle.trace.proofs.Outcomes.{ComesOut, asks-at-most, ask-next, pass-as}
+use Rattle.basics.specs.Membership.{_∈_}
+use Rattle.trace.specs.Refusals.{noPlace, fileNumbers}
+use Rattle.trace.proofs.Outcomes.{ComesOut, asks-at-most, ask-next, pass-as, next-number}
 use Rattle.accept.proofs.Questions.{comes-out, refused-number}
 use Rattle.canonical.specs.CanonicalFile.{canonicalReading}
 use Rattle.canonical.specs.Refusals.{AcceptedOutput, RefusedOutput}
@@ -24,8 +23,6 @@ output-comes-out bytes room =
 
 -- ---- which refusals there are
 
--- their numbers are 1 to 10, and 17
 pub refused-output-number : {bytes : List ℕ} {room q k : ℕ} → RefusedOutput bytes room q k
-    → ((1 ≤ q) × (q ≤ 10)) ⊎ (q ≡ 17)
-refused-output-number (by-earlier r) = inl (refused-number r)
-refused-output-number (by-this t a l n z) = inr n
+    → q ∈ fileNumbers ++ 17 ∷ []
+refused-output-number r = next-number fileNumbers refused-number r

@@ -1,6 +1,6 @@
--- Which refusal a file and a lent output get by questions 1 to 10 and 17.
+-- Which refusal a file and a lent output get by the file's questions and 17.
 -- Follows: document 01, "The questions": "the tidy file [then asks] 17"; its place is 0.
--- Differs: nowhere. `RefusedFile`, for questions 1 to 10, is in the crate `accept`, and `RefusedNext`, for a further
+-- Differs: nowhere. `RefusedFile`, for the file's questions, is in the crate `accept`, and `RefusedNext`, for a further
 -- question, in `trace`. proofs/Questions shows that the call refuses exactly so.
 use mathlib.Core.List.{List}
 use Prim.Native.Nat.{ℕ, _<_, _≤_}
@@ -15,7 +15,7 @@ pub record AcceptedOutput (bytes : List ℕ) (room : ℕ) (t : Trace) : Type 0 w
   pub accepted : AcceptedTrace bytes t
   pub output-holds : length bytes ≤ room
 
--- the first "no" is one of questions 1 to 10; or the file is accepted, and the output holds fewer bytes than it
+-- the first "no" is one of the file's questions; or the file is accepted, and the output holds fewer bytes than it
 abbrev pub RefusedOutput : List ℕ → ℕ → ℕ → ℕ → Type 0
 RefusedOutput bytes room =
     RefusedNext (RefusedFile bytes) (AcceptedTrace bytes) 17 (λ t. room < length bytes) noPlace

@@ -14,7 +14,7 @@ use c_results::races_result::RacesResult;
 use c_results::runs_result::RunsResult;
 use c_results::table_result::TableResult;
 
-// Questions 1 to 10 of any bytes.
+// Asks the file's questions, of any bytes.
 #[no_mangle]
 pub extern "C" fn mersohki_accept(file: &[u8]) -> AcceptResult
     ensures { λ r. ⌜ r ≡ acceptResult (acceptAnswer (now (file .entry))) ⌝ }
@@ -22,7 +22,7 @@ pub extern "C" fn mersohki_accept(file: &[u8]) -> AcceptResult
     c_results::accept_result::result_of(accept::accept(file))
 }
 
-// Questions 1 to 11 of any bytes and any table; where none refuses, the order table.
+// Asks the file's questions and 11, of any bytes and any table; where none refuses, the order table.
 #[no_mangle]
 pub extern "C" fn mersohki_order_table(file: &[u8], table: &mut [u16]) -> TableResult
     ensures { λ r. ⌜ TableFunction (now (file .entry)) (now (table .entry)) r (now (table .exit)) ⌝ }
@@ -30,7 +30,8 @@ pub extern "C" fn mersohki_order_table(file: &[u8], table: &mut [u16]) -> TableR
     c_results::table_result::result_of(order_table::order_table(file, table))
 }
 
-// Questions 1 to 10, 12 and 13 of any bytes and any two numbers; where none refuses, the order of the two operations.
+// Asks the file's questions, 12 and 13, of any bytes and any two numbers; where none refuses, the order of the two
+// operations.
 #[no_mangle]
 pub extern "C" fn mersohki_pair_order(file: &[u8], a: u32, b: u32) -> OrderResult
     ensures { λ r. ⌜ r ≡ orderResult (orderAnswer (now (file .entry)) a b) ⌝ }
@@ -38,7 +39,8 @@ pub extern "C" fn mersohki_pair_order(file: &[u8], a: u32, b: u32) -> OrderResul
     c_results::order_result::result_of(pair_order::pair_order(file, a, b))
 }
 
-// Questions 1 to 10 and 12 to 15 of any bytes, any two numbers and any buffers; where none refuses, the two runs.
+// Asks the file's questions and 12 to 15, of any bytes, any two numbers and any buffers; where none refuses, the two
+// runs.
 #[no_mangle]
 pub extern "C" fn mersohki_two_runs(
     file: &[u8],
@@ -53,8 +55,8 @@ pub extern "C" fn mersohki_two_runs(
     c_results::runs_result::result_of(two_runs::two_runs(file, a, b, first, second))
 }
 
-// Questions 1 to 11 and 16 of any bytes, any table and any two lists; where none refuses, the races, and the order
-// table; where 16 does, the order table.
+// Asks the file's questions, 11 and 16, of any bytes, any table and any two lists; where none refuses, the races, and
+// the order table; where 16 does, the order table.
 #[no_mangle]
 pub extern "C" fn mersohki_races(
     file: &[u8],
@@ -68,7 +70,7 @@ pub extern "C" fn mersohki_races(
     c_results::races_result::result_of(races::races(file, table, lower, higher))
 }
 
-// Questions 1 to 10 and 17 of any bytes and any output; where none refuses, the tidy file.
+// Asks the file's questions and 17, of any bytes and any output; where none refuses, the tidy file.
 #[no_mangle]
 pub extern "C" fn mersohki_canonical(file: &[u8], output: &mut [u8]) -> CanonicalResult
     ensures { λ r. ⌜ CanonicalFunction (now (file .entry)) (now (output .entry)) r (now (output .exit)) ⌝ }

@@ -178,14 +178,10 @@ fn order_due(judgement: Judgement, orders: &[u32; 64], a: usize, b: usize) -> An
 
 // The beginning of a run
 
-fn operation(x: u16) -> usize {
-    x as usize
-}
-
 // Is x among the numbers from `from` on, and before `to`?
 fn appears(list: &[u16], from: usize, to: usize, x: usize) -> bool {
     for i in from..to {
-        if i < list.len() && operation(list[i]) == x {
+        if i < list.len() && basics::index(list[i]) == x {
             return true;
         }
     }
@@ -196,7 +192,7 @@ fn appears(list: &[u16], from: usize, to: usize, x: usize) -> bool {
 // and not before it; else 0.
 fn part_due(list: &[u16], chosen: usize, other: usize) -> usize {
     for i in 0..list.len() {
-        if operation(list[i]) == chosen {
+        if basics::index(list[i]) == chosen {
             let before = appears(list, 0, i, other);
             let after = appears(list, i, list.len(), other);
             return if chosen != other && after && !before {
@@ -575,7 +571,7 @@ fn table_calls(seen: &mut [u64; KINDS], file: &[u8], judgement: Judgement, rows:
 }
 
 // Makes these calls on any bytes; `way` decides on the sizes of run buffers. A file of more than eight operations
-// counts as a mismatch unless one of the questions 1 to 9 refuses it.
+// counts as a mismatch unless its header or a record is refused.
 pub fn compare_calls(seen: &mut [u64; KINDS], file: &[u8], way: usize) {
     let mut rows = [0u16; 136];
     let mut orders = [0u32; 64];

@@ -77,7 +77,7 @@ fn random_lists(seen: &mut [u64; KINDS], count: usize) {
     }
 }
 
-// Random traces, all of which pass the questions 1 to 9.
+// Random files, all of which read as a trace.
 fn random_traces(seen: &mut [u64; KINDS], count: usize) {
     let mut seed: u64 = 1;
     for i in 0..count {

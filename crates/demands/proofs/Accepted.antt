@@ -17,9 +17,9 @@ use Rattle.accept.proofs.Answers.{accepted-answer}
 use Rattle.accept.proofs.Questions.{accepted-reads, accepted-complete, accepted-same}
 
 module _ {bytes : List ℕ} (b : Bytes bytes) (t : Trace) where
-  -- Questions 1 to 9 let a file pass, and it reads as t, exactly if it is the file of t, its header and its records,
-  -- and t is well-formed: of 1 to 16 workers and at most 1,024 operations, each as questions 6 to 9 want it, with a
-  -- length of two bytes.
+  -- A file reads as t, refused by no question of its header and its records, exactly if it is the file of t, its header
+  -- and its records, and t is well-formed: of 1 to 16 workers and at most 1,024 operations, each as the questions want
+  -- it, with a number of four bytes and a length of two.
   pub reads-means : (fileReading bytes ≡ reads t) ↔ ((bytes ≡ bytesOf base t) × WellFormed t)
   reads-means = file-means bytes t b
 

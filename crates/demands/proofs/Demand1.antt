@@ -1,14 +1,15 @@
 -- The customer's demand 1, sentence by sentence, as theorems about what the calls answer and leave in lent memory, at
 -- any file bytes and lent memory: by the definitions that their contracts equal, or, of the calls that write, by their
 -- promises (`TableCall`, `RunsCall`, `ListCall`, `RacesCall`, `CanonicalCall`). Those of the report are in Report.
-use mathlib.Core.List.{List}
-use mathlib.Core.Logic.{_⊎_, _↔_, _≢_}
+use mathlib.Core.List.{List, [], _∷_, _++_}
+use mathlib.Core.Logic.{_↔_, _≢_}
 use mathlib.Core.Path.{_≡_, refl, sym, _∙_}
-use native.Mathlib.Omega.{arith}
-use Prim.Native.Nat.{ℕ, _<_, _≤_}
+use Prim.Native.Nat.{ℕ, _<_}
 use lib.ListN.{length}
+use Rattle.basics.specs.Membership.{_∈_}
+use Rattle.basics.proofs.Members.{lacks}
 use Rattle.trace.specs.Reading.{refused}
-use Rattle.trace.specs.Refusals.{by-earlier, by-this}
+use Rattle.trace.specs.Refusals.{by-earlier, by-this, fileNumbers}
 use Rattle.trace.specs.Trace.{Trace, size}
 use Rattle.accept.specs.Acceptance.{AcceptedTrace, acceptAnswer}
 use Rattle.accept.specs.Acceptance as accept
@@ -74,8 +75,8 @@ pub reading-answers : (bytes : List ℕ) (x : AcceptAnswer) → (acceptAnswer by
 unfolding acceptAnswer
 reading-answers bytes x = outcome-exactly accept.answerOf (comes-out bytes) x
 
--- Its refusal numbers are questions 1 to 10:
-pub reading-numbers : (bytes : List ℕ) (q k : ℕ) → acceptAnswer bytes ≡ Refused q k → (1 ≤ q) × (q ≤ 10)
+-- Its refusal numbers are those of a file's questions (`fileNumbers`):
+pub reading-numbers : (bytes : List ℕ) (q k : ℕ) → acceptAnswer bytes ≡ Refused q k → q ∈ fileNumbers
 reading-numbers bytes q k a = refused-number (refused-file bytes q k .0 (answer-means bytes q k .0 a))
 
 -- For any call that keeps the order table's promise (`TableCall`), with any bytes and any table:
@@ -89,8 +90,8 @@ module _ {bytes lent now : List ℕ} {answer : TableAnswer} (c : TableCall bytes
   table-refusal : (q k : ℕ) → answer ≡ table.Refused q k → tableReading bytes (length lent) ≡ refused q k
   table-refusal q k a = table-refused bytes lent q k .0 (sym (c .answers) ∙ a)
 
-  -- Its refusal numbers are questions 1 to 11:
-  pub table-numbers : (q k : ℕ) → answer ≡ table.Refused q k → (1 ≤ q) × (q ≤ 11)
+  -- Its refusal numbers are those of a file's questions, and 11:
+  pub table-numbers : (q k : ℕ) → answer ≡ table.Refused q k → q ∈ fileNumbers ++ 11 ∷ []
   table-numbers q k a = refused-table-number (table-comes-out bytes (length lent) .refuses q k .0 (table-refusal q k a))
 
   -- document 01: "Every call that takes a file asks 1 to 10 of it itself." What reading the file refuses, it refuses
@@ -113,9 +114,9 @@ pub order-answers : (bytes : List ℕ) (a b : ℕ) (x : OrderAnswer)
 unfolding orderAnswer
 order-answers bytes a b x = outcome-exactly (pair-order.answerOf a b) (pair-comes-out bytes a b) x
 
--- Its refusal numbers are questions 1 to 10, 12 and 13:
+-- Its refusal numbers are those of a file's questions, 12 and 13:
 pub order-numbers : (bytes : List ℕ) (a b q k : ℕ) → orderAnswer bytes a b ≡ order.Refused q k
-    → ((1 ≤ q) × (q ≤ 10)) ⊎ ((12 ≤ q) × (q ≤ 13))
+    → q ∈ fileNumbers ++ 12 ∷ 13 ∷ []
 order-numbers bytes a b q k i =
     refused-pair-number (pair-comes-out bytes a b .refuses q k .0 (order-refused bytes a b q k .0 i))
 
@@ -139,8 +140,8 @@ module _ {bytes first second first-now second-now : List ℕ} {a b : ℕ} {answe
       → runsReading bytes a b (length first) (length second) ≡ refused q k
   runs-refusal q k i = runs-refused bytes a b first second q k .0 (sym (c .answers) ∙ i)
 
-  -- Its refusal numbers are questions 1 to 10 and 12 to 15:
-  pub runs-numbers : (q k : ℕ) → answer ≡ runs.Refused q k → ((1 ≤ q) × (q ≤ 10)) ⊎ ((12 ≤ q) × (q ≤ 15))
+  -- Its refusal numbers are those of a file's questions, and 12 to 15:
+  pub runs-numbers : (q k : ℕ) → answer ≡ runs.Refused q k → q ∈ fileNumbers ++ 12 ∷ 13 ∷ 14 ∷ 15 ∷ []
   runs-numbers q k i =
       let out = runs-comes-out bytes a b (length first) (length second) in
       refused-runs-number (out .refuses q k .0 (runs-refusal q k i))
@@ -188,8 +189,8 @@ module _ {bytes lent table-now : List ℕ} {room : ℕ} {answer : RacesAnswer}
       let no = races-refused bytes (length lent) room q k .0 (sym (c .answers) ∙ i) in
       races-comes-out bytes (length lent) room .refuses q k .0 no
 
-  -- Its refusal numbers are questions 1 to 11 and 16:
-  pub races-numbers : (q k : ℕ) → answer ≡ races.Refused q k → ((1 ≤ q) × (q ≤ 11)) ⊎ (q ≡ 16)
+  -- Its refusal numbers are those of a file's questions, 11 and 16:
+  pub races-numbers : (q k : ℕ) → answer ≡ races.Refused q k → q ∈ fileNumbers ++ 11 ∷ 16 ∷ []
   races-numbers q k i = refused-races-number (refused-by q k i)
 
   -- What the order table refuses, it refuses alike, whatever list it is lent:
@@ -222,7 +223,7 @@ module _ {bytes lent table-now : List ℕ} {room : ℕ} {answer : RacesAnswer}
     where
       go : RefusedRaces bytes (length lent) room 16 k
           → (t : Trace) × AcceptedTrace bytes t × (table-now ≡ writtenOver (orderTable t) lent)
-      go (by-earlier r) = absurd (omega (arith, refused-table-number r .1))
+      go (by-earlier r) = absurd (lacks 16 (fileNumbers ++ 11 ∷ []) tt (refused-table-number r))
       go (by-this t h l n z) = (t, h .accepted, c .leaves-table ∙ after-filled lent h)
 
   -- It is filled after success too:
@@ -266,8 +267,8 @@ module _ {bytes lent now : List ℕ} {answer : CanonicalAnswer} (c : CanonicalCa
   canonical-refusal : (q k : ℕ) → answer ≡ canonical.Refused q k → canonicalReading bytes (length lent) ≡ refused q k
   canonical-refusal q k a = output-refused bytes lent q k .0 (sym (c .answers) ∙ a)
 
-  -- Its refusal numbers are questions 1 to 10 and 17:
-  pub canonical-numbers : (q k : ℕ) → answer ≡ canonical.Refused q k → ((1 ≤ q) × (q ≤ 10)) ⊎ (q ≡ 17)
+  -- Its refusal numbers are those of a file's questions, and 17:
+  pub canonical-numbers : (q k : ℕ) → answer ≡ canonical.Refused q k → q ∈ fileNumbers ++ 17 ∷ []
   canonical-numbers q k a =
       refused-output-number (output-comes-out bytes (length lent) .refuses q k .0 (canonical-refusal q k a))
 
@@ -282,7 +283,7 @@ module _ {bytes lent now : List ℕ} {answer : CanonicalAnswer} (c : CanonicalCa
   )
     where
       go : RefusedOutput bytes (length lent) 17 k → (length lent < length bytes) × (k ≡ 0)
-      go (by-earlier r) = absurd (omega (arith, refused-number r .1))
+      go (by-earlier r) = absurd (lacks 17 fileNumbers tt (refused-number r))
       go (by-this u a l n z) = (l, z)
 
   -- What reading the file refuses, it refuses alike, whatever output it is lent:

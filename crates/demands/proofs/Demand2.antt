@@ -8,13 +8,14 @@ use native.Mathlib.Nat.{le-refl}
 use native.Mathlib.Omega.{arith}
 use Prim.Native.Nat.{ℕ, _+_, _*_, _<_, _≤_}
 use lib.ListN.{length, getD, take}
-use Rattle.runs.specs.Membership.{_∈_, _∉_, _⊆_, SameOperations}
+use Rattle.basics.specs.Membership.{_∈_, _∉_, _⊆_, SameOperations}
+use Rattle.basics.proofs.Members.{lacks}
 use Rattle.runs.specs.Workers.{count}
 use Rattle.trace.specs.Form.{base}
 use Rattle.trace.specs.Reading.{reads, fileReading}
-use Rattle.trace.specs.Refusals.{Refusal, one-to-four, five-to-nine}
+use Rattle.trace.specs.Refusals.{readingNumbers}
 use Rattle.trace.specs.Trace.{Trace, size, workerOf, rank}
-use Rattle.trace.proofs.Refusals.{file-refused-first, file-refused}
+use Rattle.trace.proofs.Refusals.{reading-number}
 use Rattle.model.specs.LargestRuns.{MaximalExecution, ContainsAllowed, LargestRunWithout, LargestRun, LowestOutside}
 use Rattle.model.specs.Orders.{MustPrecedeIn}
 use Rattle.model.specs.Runs.{RunOf, CompleteRunOf, NoCompleteRun}
@@ -187,7 +188,7 @@ module _ {bytes : List ℕ} {t : Trace} (h : AcceptedTrace bytes t)
 
 -- "The refusal of stuck traces [is that] of the maximal valid executions of Wisconsin report 1084."
 
--- A file that questions 1 to 9 let pass is refused 10 exactly if its trace has no complete run, and otherwise accepted:
+-- A file that reads as a trace is refused 10 exactly if its trace has no complete run, and otherwise accepted:
 module _ (bytes : List ℕ) (t : Trace) (e : fileReading bytes ≡ reads t) where
   pub refused-ten-exactly : ((k : ℕ) × (acceptAnswer bytes ≡ Refused 10 k)) ↔ NoCompleteRun t
   refused-ten-exactly = (
@@ -232,11 +233,7 @@ pub refused-ten-only : (bytes : List ℕ) (k : ℕ) → acceptAnswer bytes ≡ R
 refused-ten-only bytes k a = go (refused-file bytes 10 k .0 (answer-means bytes 10 k .0 a))
   where
     go : RefusedFile bytes 10 k → (t : Trace) × (fileReading bytes ≡ reads t) × NoCompleteRun t
-    go (by-reading r) = absurd (not-by-reading (file-refused bytes 10 k (file-refused-first bytes 10 k .1 r)))
-      where
-        not-by-reading : {n : ℕ} → Refusal n 10 k → ⊥
-        not-by-reading (one-to-four h l z) = omega arith
-        not-by-reading (five-to-nine h l z) = omega arith
+    go (by-reading r) = absurd (lacks 10 readingNumbers tt (reading-number bytes 10 k r))
     go (by-runs t e n o) = (t, e, refused-ten-exactly bytes t e .0 (k, a))
 
 -- "A tidied trace reads back as the same workers' operations, while two traces with the same worker count and the same

@@ -2,12 +2,12 @@
 -- sentence about the calls holds of it: for any function that keeps its promise (`TableFunction`, `RunsFunction`,
 -- `RacesFunction`, `CanonicalFunction`, or the equation that its contract is), at any bytes, any numbers and any lent
 -- memory.
-use mathlib.Core.List.{List}
-use mathlib.Core.Logic.{_⊎_, inl, inr}
+use mathlib.Core.List.{List, [], _∷_, _++_}
 use mathlib.Core.Path.{_≡_, refl}
-use native.Mathlib.Omega.{arith}
-use Prim.Native.Nat.{ℕ, _≤_}
+use Prim.Native.Nat.{ℕ}
 use lib.ListN.{length}
+use Rattle.basics.proofs.Members.{lacks}
+use Rattle.trace.specs.Refusals.{fileNumbers}
 use Rattle.accept.specs.Acceptance.{acceptAnswer}
 use Rattle.order_table.specs.Table.{tableAnswer, TableCall}
 use Rattle.pair_order.specs.Order.{orderAnswer}
@@ -30,27 +30,23 @@ use Rattle.c_results.proofs.ReadBack.{beginning-back}
 use Rattle.demands.proofs.Demand1.{reading-numbers, table-numbers, order-numbers, runs-numbers, races-numbers}
 use Rattle.demands.proofs.Demand1.{canonical-numbers, races-as-count}
 
--- either way the number is at least 1
-at-least : {A B : Type 0} {q : ℕ} → (B → 1 ≤ q) → ((1 ≤ q) × A) ⊎ B → 1 ≤ q
-at-least other (inl l) = l .0
-at-least other (inr b) = other b
-
 -- `mersohki_accept`
 pub c-reading : (bytes : List ℕ) {r : AcceptResult} → r ≡ acceptResult (acceptAnswer bytes)
     → acceptRead r ≡ acceptAnswer bytes
-c-reading bytes e = rw e (accept-back _ (λ q k i. reading-numbers bytes q k i .0))
+c-reading bytes e = rw e (accept-back _ (λ k i. lacks 0 fileNumbers tt (reading-numbers bytes 0 k i)))
 
 -- `mersohki_order_table`
 pub c-table : {bytes lent now : List ℕ} {r : TableResult} → TableFunction bytes lent r now
     → TableCall bytes lent (tableRead r) now
 c-table {bytes} {lent} {now} c =
     let call : TableCall bytes lent (tableAnswer bytes lent) now = record { answers = refl; leaves = c .leaves } in
-    rw (c .returns, table-back _ (λ q k i. table-numbers call q k i .0)) call
+    rw (c .returns, table-back _ (λ k i. lacks 0 (fileNumbers ++ 11 ∷ []) tt (table-numbers call 0 k i))) call
 
 -- `mersohki_pair_order`
 pub c-order : (bytes : List ℕ) (a b : ℕ) {r : OrderResult} → r ≡ orderResult (orderAnswer bytes a b)
     → orderRead r ≡ orderAnswer bytes a b
-c-order bytes a b e = rw e (order-back _ (λ q k i. at-least (λ l. omega (arith, l .0)) (order-numbers bytes a b q k i)))
+c-order bytes a b e =
+    rw e (order-back _ (λ k i. lacks 0 (fileNumbers ++ 12 ∷ 13 ∷ []) tt (order-numbers bytes a b 0 k i)))
 
 -- `mersohki_two_runs`
 pub c-runs : {bytes first second first-now second-now : List ℕ} {a b : ℕ} {r : RunsResult}
@@ -59,7 +55,8 @@ pub c-runs : {bytes first second first-now second-now : List ℕ} {a b : ℕ} {r
 c-runs {bytes} {first} {second} {first-now} {second-now} {a} {b} c =
     let call : RunsCall bytes a b first second (runsAnswer bytes a b first second) first-now second-now
     = record { answers = refl; leaves-first = c .leaves-first; leaves-second = c .leaves-second } in
-    rw (c .returns, runs-back _ (λ q k i. at-least (λ l. omega (arith, l .0)) (runs-numbers call q k i))) call
+    let numbers = fileNumbers ++ 12 ∷ 13 ∷ 14 ∷ 15 ∷ [] in
+    rw (c .returns, runs-back _ (λ k i. lacks 0 numbers tt (runs-numbers call 0 k i))) call
 
 -- `mersohki_races`
 pub c-races : {bytes table lower higher table-now lower-now higher-now : List ℕ} {r : RacesResult}
@@ -75,7 +72,7 @@ c-races {bytes} {table} {lower} {higher} {table-now} {lower-now} {higher-now} c 
       leaves-higher = c .leaves-higher;
     } in
     let count = races-as-count call in
-    rw (c .returns, races-back _ (λ q k i. at-least (λ e. omega (arith, e)) (races-numbers count q k i))) call
+    rw (c .returns, races-back _ (λ k i. lacks 0 (fileNumbers ++ 11 ∷ 16 ∷ []) tt (races-numbers count 0 k i))) call
 
 -- `mersohki_canonical`
 pub c-canonical : {bytes lent now : List ℕ} {r : CanonicalResult} → CanonicalFunction bytes lent r now
@@ -83,7 +80,7 @@ pub c-canonical : {bytes lent now : List ℕ} {r : CanonicalResult} → Canonica
 c-canonical {bytes} {lent} {now} c =
     let call : CanonicalCall bytes lent (canonicalAnswer bytes lent) now
     = record { answers = refl; leaves = c .leaves; byte-elements = c .byte-elements } in
-    rw (c .returns, canonical-back _ (λ q k i. at-least (λ e. omega (arith, e)) (canonical-numbers call q k i))) call
+    rw (c .returns, canonical-back _ (λ k i. lacks 0 (fileNumbers ++ 17 ∷ []) tt (canonical-numbers call 0 k i))) call
 
 -- `mersohki_beginning`
 pub c-beginning : (first second : List ℕ) (chosen other : ℕ) {r : BeginningResult}

@@ -1,6 +1,6 @@
 -- The report, by demands 1 and 2: what any call that keeps its promise (`ReportCall`) leaves in the lent output, at any
 -- bytes and any output. What a program then prints is those bytes; that it prints them is tested.
-use mathlib.Core.List.{List}
+use mathlib.Core.List.{List, [], _∷_, _++_, List·Memᴰ·head, Memᴰ·append-left, Memᴰ·append-right}
 use mathlib.Core.Logic.{_⊎_, inl, inr, _↔_, Iff·trans}
 use mathlib.Core.Path.{_≡_, refl, sym, _∙_}
 use native.Mathlib.Nat.{mul-le-mul}
@@ -8,8 +8,9 @@ use native.Mathlib.Omega.{arith}
 use Prim.Native.Nat.{ℕ, _*_, _<_, _≤_}
 use lib.ListN.{length, getD, take}
 use lib.Seq.{take-at}
-use Rattle.runs.proofs.Booleans.{less?}
-use Rattle.trace.specs.Refusals.{by-earlier, by-this}
+use Rattle.basics.specs.Membership.{_∈_}
+use Rattle.basics.proofs.Booleans.{less?}
+use Rattle.trace.specs.Refusals.{by-earlier, by-this, fileNumbers}
 use Rattle.trace.specs.Trace.{Trace, size}
 use Rattle.trace.proofs.Outcomes.{outcome-refused}
 use Rattle.accept.specs.Acceptance.{AcceptedTrace, acceptAnswer}
@@ -55,13 +56,13 @@ module _ {bytes lent : List ℕ} {count : ℕ} {now : List ℕ} (c : ReportCall 
       (Iff·trans (outcome-refused textOf text-tells (racesReading bytes tableSpace raceSpace) q k)
       (races-comes-out bytes tableSpace raceSpace .refuses q k))
 
-  -- Its refusal numbers are questions 1 to 10 and 16:
-  pub report-numbers : (q k : ℕ) → take count now ≡ refusal q k → ((1 ≤ q) × (q ≤ 10)) ⊎ (q ≡ 16)
+  -- Its refusal numbers are those of a file's questions, and 16:
+  pub report-numbers : (q k : ℕ) → take count now ≡ refusal q k → q ∈ fileNumbers ++ 16 ∷ []
   report-numbers q k e = go (report-refused q k .0 e)
     where
-      go : RefusedRaces bytes tableSpace raceSpace q k → ((1 ≤ q) × (q ≤ 10)) ⊎ (q ≡ 16)
-      go (by-this t f l n z) = inr n
-      go (by-earlier (by-earlier r)) = inl (refused-number r)
+      go : RefusedRaces bytes tableSpace raceSpace q k → q ∈ fileNumbers ++ 16 ∷ []
+      go (by-this t f l n z) = Memᴰ·append-right fileNumbers (List·Memᴰ·head n)
+      go (by-earlier (by-earlier r)) = Memᴰ·append-left (16 ∷ []) (refused-number r)
       go (by-earlier (by-this t h l n z)) = absurd (omega (arith, l, table-enough h))
 
   -- What reading the file refuses, it refuses alike:

@@ -36,12 +36,12 @@ pub data Outcome {X : Type 0} (result : Trace → X) (refusal : ℕ → ℕ → 
   gives : {t : Trace} → Passes t → Outcome result refusal Passes RefusedBy (result t)
   refuses : {q k : ℕ} → RefusedBy q k → Outcome result refusal Passes RefusedBy (refusal q k)
 
--- reading a file: the counts of the accepted trace, or the refusal by questions 1 to 10
+-- reading a file: the counts of the accepted trace, or the refusal by the file's questions
 abbrev pub AcceptOutcome : List ℕ → AcceptAnswer → Type 0
 AcceptOutcome bytes =
     Outcome (λ t. accept.Accepted (t .workers) (size t)) accept.Refused (AcceptedTrace bytes) (RefusedFile bytes)
 
--- the order table, where the lent one holds `room` numbers: the counts, or the refusal by questions 1 to 11
+-- the order table, where the lent one holds `room` numbers: the counts, or the refusal by the file's questions and 11
 abbrev pub TableOutcome : List ℕ → ℕ → TableAnswer → Type 0
 TableOutcome bytes room =
     Outcome
@@ -50,20 +50,20 @@ TableOutcome bytes room =
     (AcceptedTable bytes room)
     (RefusedTable bytes room)
 
--- the pair order: the order of two different operations of the accepted trace, or the refusal by questions 1 to 10, 12
--- and 13
+-- the pair order: the order of two different operations of the accepted trace, or the refusal by the file's questions,
+-- 12 and 13
 abbrev pub OrderOutcome : List ℕ → ℕ → ℕ → OrderAnswer → Type 0
 OrderOutcome bytes a b =
     Outcome (λ t. order.Ordered (pairOrder t a b)) order.Refused (AcceptedPair bytes a b) (RefusedPair bytes a b)
 
--- the two runs, where the buffers hold x and y numbers: the operation count, or the refusal by questions 1 to 10 and 12
--- to 15
+-- the two runs, where the buffers hold x and y numbers: the operation count, or the refusal by the file's questions and
+-- 12 to 15
 abbrev pub RunsOutcome : List ℕ → ℕ → ℕ → ℕ → ℕ → RunsAnswer → Type 0
 RunsOutcome bytes a b x y =
     Outcome (λ t. runs.Runs (size t)) runs.Refused (AcceptedRuns bytes a b x y) (RefusedRuns bytes a b x y)
 
 -- the races, where the table holds `numbers` numbers and the list `room` records: the counts and the number of races,
--- or the refusal by questions 1 to 11 and 16
+-- or the refusal by the file's questions, 11 and 16
 abbrev pub RacesOutcome : List ℕ → ℕ → ℕ → RacesAnswer → Type 0
 RacesOutcome bytes numbers room =
     Outcome
@@ -72,7 +72,7 @@ RacesOutcome bytes numbers room =
     (AcceptedRaces bytes numbers room)
     (RefusedRaces bytes numbers room)
 
--- the tidy file, where the output holds `room` bytes: its size, or the refusal by questions 1 to 10 and 17
+-- the tidy file, where the output holds `room` bytes: its size, or the refusal by the file's questions and 17
 abbrev pub CanonicalOutcome : List ℕ → ℕ → CanonicalAnswer → Type 0
 CanonicalOutcome bytes room =
     Outcome

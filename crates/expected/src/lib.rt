@@ -13,10 +13,10 @@ fn of_worker(t: SmallTrace, set: u8, q: usize) -> u16 {
     n
 }
 
-// The counts of a file, and the first "no" among questions 1 to 10 with its place, or 0; where one of the questions 1
-// to 9 refuses, the counts are the largest here, so that memory is lent. `sound` says that the search came to its end,
-// that each largest run contains every run that lacks its operation, and that a trace with a complete run has no dead
-// end; `shared`, that the file is accepted and the event of some Wait has several Posts.
+// The counts of a file, and the first "no" among its questions with its place, or 0; where the file does not read as a
+// trace, the counts are the largest here, so that memory is lent. `sound` says that the search came to its end, that
+// each largest run contains every run that lacks its operation, and that a trace with a complete run has no dead end;
+// `shared`, that the file is accepted and the event of some Wait has several Posts.
 pub struct Judgement {
     pub number: u8,
     pub place: u32,
@@ -79,7 +79,7 @@ fn has_shared_event(r: Rules) -> bool {
     false
 }
 
-// Question 10, and what all runs say of a trace that the questions 1 to 9 let pass.
+// Question 10, and what all runs say of the trace.
 fn judged(t: SmallTrace, rows: &mut [u16; 136], orders: &mut [u32; 64]) -> Judgement {
     let r = every_run::rules_of(t);
     let mut reached = [false; 256];
@@ -107,8 +107,8 @@ fn judged(t: SmallTrace, rows: &mut [u16; 136], orders: &mut [u32; 64]) -> Judge
     }
 }
 
-// Questions 1 to 10 of any bytes; of an accepted file of up to eight operations also the rows of its table and the
-// order of each two operations.
+// Asks the file's questions, of any bytes; of an accepted file of up to eight operations also the rows of its table and
+// the order of each two operations.
 pub fn judgement_of(file: &[u8], rows: &mut [u16; 136], orders: &mut [u32; 64]) -> Judgement {
     let v = small_file::first_no(file);
     if v.number != 0 {

@@ -11,15 +11,16 @@ use Prim.Native.Nat.{ℕ, _<_, _≤_}
 use lib.IntN.{pos}
 use lib.ListN.{length}
 use lib.Dec.{T, eqb, eqb→eq, eqb-refl, T-not, not-T}
-use Rattle.runs.specs.Membership.{SameOperations}
+use Rattle.basics.specs.Membership.{SameOperations}
+use Rattle.basics.proofs.Booleans.{and-left, and-right, and-intro, less?}
+use Rattle.basics.proofs.Members.{same-snoc}
 use Rattle.runs.specs.Rule.{Rule, without}
 use Rattle.runs.specs.Run.{StandsBefore}
 use Rattle.runs.specs.Steps.{Addable}
 use Rattle.runs.specs.Workers.{LowestFirst, HoldsBack, none-can, moves}
 use Rattle.runs.proofs.Before.{before-asymmetric}
-use Rattle.runs.proofs.Booleans.{and-left, and-right, and-intro, less?}
+use Rattle.runs.proofs.Done.{done-same}
 use Rattle.runs.proofs.HoldingBack.{holding-back-complete, holding-back-before, holding-back-holds, holds-back-unique}
-use Rattle.runs.proofs.Members.{done-same, same-snoc}
 use Rattle.trace.specs.Trace.{Trace, size, workerOf}
 use Rattle.model.specs.Computed.{pairOrder, heldBackRun}
 use Rattle.model.specs.Moves.{CanMove, LowestFirstRun, takes, Only, Nothing, HeldBackRun}

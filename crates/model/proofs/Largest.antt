@@ -7,16 +7,17 @@ use native.Mathlib.Omega.{arith}
 use Prim.Native.Nat.{ℕ, _≤_, _<_}
 use lib.Dec.{T}
 use lib.ListN.{length}
+use Rattle.basics.specs.Membership.{_∈_, _∉_, _⊆_, SameOperations}
+use Rattle.basics.proofs.Booleans.{equal?}
+use Rattle.basics.proofs.Members.{here, in-by-contradiction, different-apart}
 use Rattle.runs.specs.Maximal.{MaximalWithout, LargestWithout, Largest, Maximal}
-use Rattle.runs.specs.Membership.{_∈_, _∉_, _⊆_, SameOperations}
 use Rattle.runs.specs.Run.{Run}
 use Rattle.runs.specs.Steps.{Addable, done}
-use Rattle.runs.proofs.Booleans.{equal?}
 use Rattle.runs.proofs.CarryOn.{maximal-exists, maximal-without-exists, carry-on}
+use Rattle.runs.proofs.Done.{done-same}
 use Rattle.runs.proofs.Exchange.{add-run}
 use Rattle.runs.proofs.GreedyRuns.{greedy-maximal, greedy-without-maximal}
 use Rattle.runs.proofs.MaximalRuns.{maximal-contains, maximal-same, maximal-largest, maximal-complete}
-use Rattle.runs.proofs.Members.{here, in-by-contradiction, done-same, different-apart}
 use Rattle.runs.proofs.RunSteps.{complete-length}
 use Rattle.runs.proofs.RunsWithout.{maximal-without-largest, maximal-without-contains, maximal-without-same}
 use Rattle.trace.specs.Trace.{Trace, size}

@@ -7,9 +7,9 @@ use mathlib.Core.Path.{_≡_, refl}
 use native.Mathlib.Nat.{zero-add}
 use native.Mathlib.Omega.{arith}
 use Prim.Native.Nat.{ℕ, zero, suc, _+_, _<_, _≤_}
-use Rattle.runs.specs.Membership.{_∈_, _∉_, mem}
-use Rattle.runs.proofs.Booleans.{equal?, less?}
-use Rattle.runs.proofs.Members.{mem-test}
+use Rattle.basics.specs.Membership.{_∈_, _∉_, mem}
+use Rattle.basics.proofs.Booleans.{equal?, less?}
+use Rattle.basics.proofs.Members.{mem-test}
 use Rattle.trace.specs.Trace.{Trace, size}
 use Rattle.model.specs.Computed.{largestRun, firstMissing, firstOutside}
 use Rattle.model.specs.LargestRuns.{LargestRun, LowestOutside}

@@ -3,10 +3,10 @@ use mathlib.Core.List.{List, map, Memᴰ·map}
 use mathlib.Core.Path.{_≡_, sym, ap, _∙_}
 use native.Mathlib.Omega.{arith}
 use Prim.Native.Nat.{ℕ, _<_}
-use Rattle.runs.specs.Membership.{_∈_}
+use Rattle.basics.specs.Membership.{_∈_}
+use Rattle.basics.proofs.Members.{map-each, different-map}
 use Rattle.runs.specs.Run.{StandsBefore}
 use Rattle.runs.proofs.Before.{before-first, before-map}
-use Rattle.runs.proofs.Members.{map-each, different-map}
 use Rattle.trace.specs.Trace.{Trace, size, operation}
 use Rattle.model.specs.Runs.{Earlier, Waits, PostBefore, RunOf, CompleteRunOf}
 

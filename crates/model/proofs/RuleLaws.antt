@@ -4,10 +4,10 @@
 use mathlib.Core.Bool.{not}
 use mathlib.Core.List.{List}
 use Prim.Native.Nat.{ℕ}
+use Rattle.basics.proofs.Booleans.{and-left}
 use Rattle.runs.specs.Rule.{Monotone}
 use Rattle.runs.specs.Greedy.{Preference}
 use Rattle.runs.specs.Workers.{turn, InTurn, Ascending}
-use Rattle.runs.proofs.Booleans.{and-left}
 use Rattle.runs.proofs.CanonicalOrder.{canonical-preference, canonical-ascending}
 use Rattle.runs.proofs.MonotoneTests.{Grows, grows-rule, grows-fixed, grows-and, grows-or, grows-done, grows-turn}
 use Rattle.runs.proofs.ProgramOrder.{turn-in-turn}
@@ -44,6 +44,6 @@ order-preference {t} w = canonical-preference (workerOf t) (w .known)
 
 -- ---- a file's workers
 
--- the trace of a file that questions 1 to 9 let pass has known workers
+-- the trace of a file that reads as a trace has known workers
 pub holds-workers : {bytes : List ℕ} {p n : ℕ} → HoldsTrace bytes p n → WorkersKnown (traceOf bytes)
 holds-workers h = record { known = λ k l. rw (h .workers) (h .each k (rw (h .count) at l) .worker) }

@@ -7,11 +7,11 @@ use mathlib.Core.Path.{_≡_, refl, sym}
 use Prim.Native.Nat.{ℕ, _<_}
 use lib.Dec.{T}
 use lib.IntN.{ℤ, pos, negsuc, negℤ}
-use Rattle.runs.specs.Membership.{_∈_}
+use Rattle.basics.specs.Membership.{_∈_}
+use Rattle.basics.proofs.Booleans.{zero-one, test-true, both-pass, one-fails, not-passes, not-fails}
+use Rattle.basics.proofs.Members.{in-by-contradiction}
 use Rattle.runs.specs.MustPrecede.{MustPrecede}
 use Rattle.runs.specs.Run.{Complete, StandsBefore}
-use Rattle.runs.proofs.Booleans.{zero-one, test-true, both-pass, one-fails, not-passes, not-fails}
-use Rattle.runs.proofs.Members.{in-by-contradiction}
 use Rattle.runs.proofs.SharedOrder.{must-precede-shared, must-precede-asymmetric, must-precede-test}
 use Rattle.runs.proofs.SharedOrder.{must-precede-outside}
 use Rattle.trace.specs.Trace.{Trace, size}

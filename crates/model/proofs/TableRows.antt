@@ -9,12 +9,11 @@ use lib.Dec.{T, leb}
 use lib.ListN.{length, getD, length-append, List·getD-append}
 use lib.Seq.{getD-append-seam}
 use borrow.Author.Tests.{leb-true, le-leb}
+use Rattle.basics.proofs.Booleans.{equal?, test-true, test-equal}
 use Rattle.runs.specs.MustPrecede.{MustPrecede}
 use Rattle.runs.specs.Workers.{count, earlier}
-use Rattle.runs.proofs.Booleans.{equal?, test-true, test-equal}
 use Rattle.runs.proofs.Rows.{row-same, must-precede-row, must-precede-earlier, row-own}
 use Rattle.trace.specs.Trace.{Trace, size, workerOf, rank}
-use Rattle.trace.proofs.WorkerOperations.{rank-earlier}
 use Rattle.model.specs.Computed.{largestRunWithout, countsOf, row, mustPrecedeIn}
 use Rattle.model.specs.LargestRuns.{MaximalExecution}
 use Rattle.model.specs.Orders.{MustPrecedeIn}
@@ -24,6 +23,7 @@ use Rattle.model.proofs.Largest.{execution-means, largestRunWithout-exe
 use Rattle.model.proofs.RuleLaws.{rule-monotone, rule-in-turn}
 use Rattle.model.proofs.SharedOrder.{must-precede-means, must-precede-in-test}
 use Rattle.model.proofs.TraceRuns.{complete-means}
+use Rattle.model.proofs.WorkerOperations.{rank-earlier}
 
 -- ---- length and entries
 

@@ -6,13 +6,13 @@ use mathlib.Core.Logic.{_↔_, Iff·trans}
 use mathlib.Core.Path.{_≡_}
 use Prim.Native.Nat.{ℕ}
 use lib.Dec.{T, eqb, eqb→eq, eqb-refl}
-use Rattle.runs.specs.Membership.{_∈_}
+use Rattle.basics.specs.Membership.{_∈_}
+use Rattle.basics.proofs.Booleans.{and-left, and-right, and-intro, if-test}
+use Rattle.basics.proofs.Members.{any-test, in-split, here}
 use Rattle.runs.specs.Run.{Run, Complete, StandsBefore}
 use Rattle.runs.specs.Steps.{isRun}
 use Rattle.runs.specs.Workers.{turn}
 use Rattle.runs.proofs.Before.{before-front, front-before}
-use Rattle.runs.proofs.Booleans.{and-left, and-right, and-intro, if-test}
-use Rattle.runs.proofs.Members.{any-test, in-split, here}
 use Rattle.runs.proofs.ProgramOrder.{turn-test}
 use Rattle.runs.proofs.RunSteps.{run-test, run-first}
 use Rattle.trace.specs.Trace.{Trace, operation, workerOf, isPost, isWait}

@@ -5,7 +5,7 @@ use mathlib.Core.Bool.{Bool, cond, not, _&&_}
 use mathlib.Core.List.{List, [], _∷_, _++_}
 use Prim.Native.Nat.{ℕ, zero, suc}
 use lib.IntN.{ℤ, pos, negsuc}
-use Rattle.runs.specs.Membership.{mem}
+use Rattle.basics.specs.Membership.{mem}
 use Rattle.runs.specs.Rule.{without}
 use Rattle.runs.specs.Greedy.{greedy, mustPrecede, holdingBack}
 use Rattle.runs.specs.Workers.{count}

@@ -10,7 +10,7 @@ use mathlib.Core.Logic.{_≢_}
 use mathlib.Core.Path.{_≡_}
 use Prim.Native.Nat.{ℕ, _<_, _≤_}
 use lib.ListN.{length}
-use Rattle.runs.specs.Membership.{_∈_, _∉_}
+use Rattle.basics.specs.Membership.{_∈_, _∉_}
 use Rattle.trace.specs.Trace.{Trace, size}
 use Rattle.model.specs.Runs.{Earlier, Waits, PostFor, RunOf}
 

@@ -4,7 +4,7 @@
 use mathlib.Core.List.{List, [], _∷_, _++_}
 use mathlib.Core.Path.{_≡_}
 use Prim.Native.Nat.{ℕ, _<_}
-use Rattle.runs.specs.Membership.{_∈_, _∉_}
+use Rattle.basics.specs.Membership.{_∈_, _∉_}
 use Rattle.trace.specs.Trace.{Trace, size, workerOf}
 use Rattle.model.specs.Runs.{Earlier, Waits, PostFor}
 

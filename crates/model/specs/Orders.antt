@@ -4,7 +4,7 @@
 use mathlib.Core.List.{List}
 use mathlib.Core.Logic.{_≢_}
 use Prim.Native.Nat.{ℕ}
-use Rattle.runs.specs.Membership.{_∉_}
+use Rattle.basics.specs.Membership.{_∉_}
 use Rattle.runs.specs.Run.{StandsBefore}
 use Rattle.trace.specs.Trace.{Trace}
 use Rattle.model.specs.Runs.{CompleteRunOf}

@@ -5,7 +5,7 @@ use mathlib.Core.Bool.{Bool, not, _&&_, _||_}
 use mathlib.Core.List.{List}
 use Prim.Native.Nat.{ℕ, _<_}
 use lib.Dec.{eqb}
-use Rattle.runs.specs.Membership.{anyOf}
+use Rattle.basics.specs.Membership.{anyOf}
 use Rattle.runs.specs.Rule.{Rule}
 use Rattle.runs.specs.Workers.{turn, canonical}
 use Rattle.trace.specs.Trace.{Trace, size, operation, workerOf, isPost, isWait}

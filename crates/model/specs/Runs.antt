@@ -5,7 +5,7 @@ use mathlib.Core.List.{List, _++_}
 use mathlib.Core.Path.{_≡_}
 use Prim.Native.Nat.{ℕ, _<_}
 use lib.Dec.{T}
-use Rattle.runs.specs.Membership.{_∈_, Different}
+use Rattle.basics.specs.Membership.{_∈_, Different}
 use Rattle.runs.specs.Run.{StandsBefore}
 use Rattle.trace.specs.Trace.{Trace, size, operation, workerOf, isPost, isWait}
 

@@ -5,7 +5,7 @@ use mathlib.Core.Logic.{_↔_}
 use mathlib.Core.Path.{_≡_, refl, _∙_}
 use Prim.Native.Nat.{ℕ, _*_, _<_, _≤_}
 use lib.ListN.{length}
-use Rattle.runs.proofs.Booleans.{zero-one}
+use Rattle.basics.proofs.Booleans.{zero-one}
 use Rattle.trace.specs.Premises.{HoldsTrace}
 use Rattle.trace.specs.Refusals.{by-earlier, by-this}
 use Rattle.trace.specs.Reading.{Reading, refused, traceOf}

@@ -1,11 +1,11 @@
--- Questions 1 to 11 of a file and a lent table. In order: when none refuses, and when one does; which refusals there
--- are.
-use mathlib.Core.List.{List}
-use native.Mathlib.Omega.{arith}
-use Prim.Native.Nat.{ℕ, _*_, _≤_}
-use Rattle.trace.specs.Refusals.{noPlace, by-earlier, by-this}
+-- The file's questions, and 11 of a lent table. In order: when none refuses, and when one does; which
+-- refusals there are.
+use mathlib.Core.List.{List, [], _∷_, _++_}
+use Prim.Native.Nat.{ℕ, _*_}
+use Rattle.basics.specs.Membership.{_∈_}
+use Rattle.trace.specs.Refusals.{noPlace, fileNumbers}
 use Rattle.trace.specs.Trace.{size}
-use Rattle.trace.proofs.Outcomes.{ComesOut, asks-at-most, ask-next, pass-as}
+use Rattle.trace.proofs.Outcomes.{ComesOut, asks-at-most, ask-next, pass-as, next-number}
 use Rattle.accept.proofs.Questions.{comes-out, refused-number}
 use Rattle.order_table.specs.Refusals.{AcceptedTable, RefusedTable}
 use Rattle.order_table.specs.Table.{tableReading}
@@ -23,6 +23,5 @@ table-comes-out bytes room =
 
 -- ---- which refusals there are
 
-pub refused-table-number : {bytes : List ℕ} {room q k : ℕ} → RefusedTable bytes room q k → (1 ≤ q) × (q ≤ 11)
-refused-table-number (by-earlier r) = let n = refused-number r in (n .0, omega (arith, n .1))
-refused-table-number (by-this t a l n z) = (omega arith, omega arith)
+pub refused-table-number : {bytes : List ℕ} {room q k : ℕ} → RefusedTable bytes room q k → q ∈ fileNumbers ++ 11 ∷ []
+refused-table-number r = next-number fileNumbers refused-number r

@@ -1,6 +1,6 @@
--- Which refusal a file and a lent table get by questions 1 to 11.
+-- Which refusal a file and a lent table get by the file's questions and 11.
 -- Follows: document 01, "The questions": "The table then asks 11"; its place is 0.
--- Differs: nowhere. `RefusedFile`, for questions 1 to 10, is in the crate `accept`, and `RefusedNext`, for a further
+-- Differs: nowhere. `RefusedFile`, for the file's questions, is in the crate `accept`, and `RefusedNext`, for a further
 -- question, in `trace`. proofs/Questions shows that the call refuses exactly so.
 use mathlib.Core.List.{List}
 use Prim.Native.Nat.{ℕ, _*_, _<_, _≤_}
@@ -14,7 +14,7 @@ pub record AcceptedTable (bytes : List ℕ) (room : ℕ) (t : Trace) : Type 0 wh
   pub accepted : AcceptedTrace bytes t
   pub table-holds : size t * t .workers ≤ room
 
--- the first "no" is one of questions 1 to 10; or the file is accepted, and the table holds fewer than n × p numbers
+-- the first "no" is one of the file's questions; or the file is accepted, and the table holds fewer than n × p numbers
 abbrev pub RefusedTable : List ℕ → ℕ → ℕ → ℕ → Type 0
 RefusedTable bytes room =
     RefusedNext (RefusedFile bytes) (AcceptedTrace bytes) 11 (λ t. room < size t * t .workers) noPlace

@@ -21,7 +21,7 @@ use Rattle.order_table.specs.declared.TableAnswer.the-variants.{Filled, 
 abbrev pub hasRoom : ℕ → Trace → Bool
 hasRoom room t = leb (size t * t .workers) room
 
--- questions 1 to 11: the refusal by the first "no", or the trace
+-- the file's questions and 11: the refusal by the first "no", or the trace
 unfoldable pub tableReading : List ℕ → ℕ → Reading
 tableReading bytes room = thenAsk 11 (hasRoom room) noPlace (acceptance bytes)
 

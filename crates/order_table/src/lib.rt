@@ -31,7 +31,7 @@ fn fill_if_room(file: &[u8], workers: u8, operations: u32, table: &mut [u16]) ->
     }
 }
 
-// Questions 1 to 11 of any bytes and any table; where none refuses, the order table.
+// Asks the file's questions and 11, of any bytes and any table; where none refuses, the order table.
 pub fn order_table(file: &[u8], table: &mut [u16]) -> TableAnswer
     ensures { λ r. ⌜ TableCall (now (file .entry)) (now (table .entry)) r (now (table .exit)) ⌝ }
 {

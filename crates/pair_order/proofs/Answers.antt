@@ -6,7 +6,7 @@ use mathlib.Core.Path.{_≡_, refl, sym, _∙_}
 use Prim.Native.Nat.{ℕ, _<_, _≤_}
 use lib.Dec.{leb}
 use lib.IntN.{ℤ, pos, negsuc}
-use Rattle.runs.proofs.Booleans.{zero-one}
+use Rattle.basics.proofs.Booleans.{zero-one}
 use Rattle.trace.specs.Premises.{HoldsTrace}
 use Rattle.trace.specs.Reading.{Reading, refused, traceOf}
 use Rattle.trace.specs.Refusals.{by-earlier, by-this}

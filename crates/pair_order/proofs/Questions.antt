@@ -1,16 +1,16 @@
--- Questions 1 to 10, 12 and 13 of a file and two numbers. In order: when none refuses, and when one does; which
+-- The file's questions, and 12 and 13 of two numbers. In order: when none refuses, and when one does; which
 -- refusals there are.
-use mathlib.Core.List.{List}
-use mathlib.Core.Logic.{_⊎_, inl, inr, _≢_}
+use mathlib.Core.List.{List, [], _∷_, _++_}
+use mathlib.Core.Logic.{_⊎_, _≢_}
 use mathlib.Core.Path.{_≡_}
-use native.Mathlib.Omega.{arith}
 use Prim.Native.Nat.{ℕ, _<_, _≤_}
 use lib.Dec.{eqb}
 use borrow.Author.Tests.{eqb-true, eqb-false, eq-eqb, ne-eqb, not-true, not-false}
+use Rattle.basics.specs.Membership.{_∈_}
 use Rattle.trace.specs.Reading.{thenAsk}
-use Rattle.trace.specs.Refusals.{noPlace, by-earlier, by-this}
+use Rattle.trace.specs.Refusals.{noPlace, fileNumbers}
 use Rattle.trace.specs.Trace.{size}
-use Rattle.trace.proofs.Outcomes.{ComesOut, Meaning, asks-below, asks-both, ask-next, pass-as}
+use Rattle.trace.proofs.Outcomes.{ComesOut, Meaning, asks-below, asks-both, ask-next, pass-as, next-number}
 use Rattle.accept.specs.Acceptance.{acceptance, AcceptedTrace}
 use Rattle.accept.proofs.Questions.{comes-out, refused-number}
 use Rattle.pair_order.specs.Order.{bothBelow, theyDiffer, pairReading}
@@ -47,7 +47,5 @@ module _ (bytes : List ℕ) (a b : ℕ) where
 -- ---- which refusals there are
 
 pub refused-pair-number : {bytes : List ℕ} {a b q k : ℕ} → RefusedPair bytes a b q k
-    → ((1 ≤ q) × (q ≤ 10)) ⊎ ((12 ≤ q) × (q ≤ 13))
-refused-pair-number (by-earlier (by-earlier r)) = inl (refused-number r)
-refused-pair-number (by-earlier (by-this t h l n z)) = inr (omega arith, omega arith)
-refused-pair-number (by-this t h l n z) = inr (omega arith, omega arith)
+    → q ∈ fileNumbers ++ 12 ∷ 13 ∷ []
+refused-pair-number r = next-number (fileNumbers ++ 12 ∷ []) (next-number fileNumbers refused-number) r

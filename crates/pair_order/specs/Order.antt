@@ -21,7 +21,7 @@ bothBelow a b t = ltb a (size t) && ltb b (size t)
 abbrev pub theyDiffer : ℕ → ℕ → Trace → Bool
 theyDiffer a b t = not (eqb a b)
 
--- questions 1 to 10, 12 and 13: the refusal by the first "no", or the trace
+-- the file's questions, 12 and 13: the refusal by the first "no", or the trace
 unfoldable pub pairReading : List ℕ → ℕ → ℕ → Reading
 pairReading bytes a b = thenAsk 13 (theyDiffer a b) noPlace (thenAsk 12 (bothBelow a b) noPlace (acceptance bytes))
 

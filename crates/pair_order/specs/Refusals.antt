@@ -1,7 +1,7 @@
--- Two operations of an accepted file, and which refusal a file and two numbers get by questions 1 to 10, 12 and 13.
+-- Two operations of an accepted file, and which refusal a file and two numbers get by the file's questions, 12 and 13.
 -- Follows: document 01, "The questions": "the pair order [asks] 12, 13"; their place is 0. The letter, demand 3: "for
 -- every accepted trace and every two different operations a and b of it".
--- Differs: nowhere. `RefusedFile`, for questions 1 to 10, is in the crate `accept`, and `RefusedNext`, for a further
+-- Differs: nowhere. `RefusedFile`, for the file's questions, is in the crate `accept`, and `RefusedNext`, for a further
 -- question, in `trace`. proofs/Questions shows that the call refuses exactly so.
 use mathlib.Core.List.{List}
 use mathlib.Core.Logic.{_⊎_, _≢_}
@@ -23,7 +23,7 @@ pub record AcceptedPair (bytes : List ℕ) (a b : ℕ) (t : Trace) : Type 0 wher
   pub numbers : AcceptedNumbers bytes a b t
   pub differ : a ≢ b
 
--- the first "no" is one of questions 1 to 10; or the file is accepted, and one of the numbers is not below n
+-- the first "no" is one of the file's questions; or the file is accepted, and one of the numbers is not below n
 abbrev pub RefusedNumbers : List ℕ → ℕ → ℕ → ℕ → ℕ → Type 0
 RefusedNumbers bytes a b =
     RefusedNext (RefusedFile bytes) (AcceptedTrace bytes) 12 (λ t. (size t ≤ a) ⊎ (size t ≤ b)) noPlace

@@ -86,7 +86,8 @@ pub fn order_if_pair(file: &[u8], workers: u8, operations: u32, a: u32, b: u32) 
     )
 }
 
-// Questions 1 to 10, 12 and 13 of any bytes and any two numbers; where none refuses, the order of the two operations.
+// Asks the file's questions, 12 and 13, of any bytes and any two numbers; where none refuses, the order of the two
+// operations.
 pub fn pair_order(file: &[u8], a: u32, b: u32) -> OrderAnswer
     ensures { λ r. ⌜ r ≡ orderAnswer (now (file .entry)) a b ⌝ }
 {

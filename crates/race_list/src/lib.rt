@@ -28,8 +28,8 @@ fn write_races(list: &mut [Race], file: &[u8], table: &[u16], count: usize)
     }
 }
 
-// Questions 1 to 11 and 16 of any bytes, any table and any list; where none refuses, the races, and the order table;
-// where 16 does, the order table.
+// Asks the file's questions, 11 and 16, of any bytes, any table and any list; where none refuses, the races, and the
+// order table; where 16 does, the order table.
 pub fn race_list(file: &[u8], table: &mut [u16], list: &mut [Race]) -> RacesAnswer
     ensures { λ r. ⌜ ListCall (now (file .entry)) (now (table .entry)) (now (list .entry)) r (now (table .exit))
         (now (list .exit)) ⌝ }

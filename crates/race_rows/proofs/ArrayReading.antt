@@ -6,7 +6,7 @@ use native.Mathlib.Omega.{arith}
 use Prim.Native.Nat.{ℕ, _+_, _*_, _<_, _≤_}
 use lib.ListN.{length, getD, set, length-set}
 use lib.Seq.{getD-set-same, getD-set-other}
-use Rattle.runs.proofs.Booleans.{equal?}
+use Rattle.basics.proofs.Booleans.{equal?}
 use Rattle.trace.specs.Trace.{Trace, operation, workerOf}
 use Rattle.race_rows.specs.Rows.{Cells, CellsBelow, PlacesBelow}
 

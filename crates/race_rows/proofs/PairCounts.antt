@@ -10,7 +10,7 @@ use Prim.Native.Nat.{ℕ, zero, suc, _+_, _*_, _-_, _<_, _≤_}
 use lib.ListN.{length, getD, set, length-set}
 use lib.Seq.{getD-set-same, getD-set-other}
 use borrow.Author.Tests.{eq-eqb, ne-eqb, eqb-true, not-false}
-use Rattle.runs.proofs.Booleans.{equal?}
+use Rattle.basics.proofs.Booleans.{equal?}
 use Rattle.trace.specs.Trace.{Trace, size, workerOf}
 use Rattle.model.specs.Rule.{WorkersKnown}
 use Rattle.race_search.specs.RaceList.{isRace, racesBelow, raceCount}

@@ -7,7 +7,7 @@ use native.Mathlib.Omega.{arith}
 use Prim.Native.Nat.{ℕ, zero, suc, _+_, _<_, _≤_}
 use lib.ListN.{length, getD, length-append, length-map, List·getD-append}
 use lib.Seq.{length-take-le, getD-append-seam}
-use Rattle.runs.proofs.Booleans.{equal?, less?}
+use Rattle.basics.proofs.Booleans.{equal?, less?}
 use Rattle.trace.specs.Trace.{Trace, size}
 use Rattle.race_search.specs.declared.Race.{Race}
 use Rattle.race_search.specs.RaceList.{isRace, pair, racesOf, racesBelow, raceList, raceCount}

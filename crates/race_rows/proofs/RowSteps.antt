@@ -12,7 +12,7 @@ use lib.ListN.{length, getD, set, take, length-set}
 use lib.Dec.{ltb}
 use lib.Seq.{getD-set-same, getD-set-other, getD-take, take-suc, take-suc-set, take-set-le}
 use borrow.Author.Tests.{ltb-true, lt-ltb, le-ltb}
-use Rattle.runs.proofs.Booleans.{equal?}
+use Rattle.basics.proofs.Booleans.{equal?}
 use Rattle.trace.specs.Trace.{Trace, size, operation}
 use Rattle.trace.proofs.Answered.{both}
 use Rattle.model.specs.Computed.{unorderedIn}

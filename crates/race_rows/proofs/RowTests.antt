@@ -10,7 +10,7 @@ use lib.Bits.{bitAnd, bitOr}
 use lib.Dec.{leb, ltb}
 use lib.ListN.{getD}
 use borrow.Author.Tests.{leb-true, le-leb, lt-leb, le-ltb, lt-ltb}
-use Rattle.runs.proofs.Booleans.{test-true, never-passes, less?}
+use Rattle.basics.proofs.Booleans.{test-true, never-passes, less?}
 use Rattle.trace.specs.declared.Operation.{Operation}
 use Rattle.trace.specs.Reading.{reads, fileReading, traceOf}
 use Rattle.trace.specs.Trace.{size, operation, workerOf, isWrite, isAccess}

@@ -11,27 +11,6 @@ ghost use Rattle.race_rows.specs.Rows.{unorderedBit, RowOfTable, MarkedR
 ghost use Rattle.race_rows.specs.Rows.{pairCount};
 use trace::Operation;
 
-// A small number as an index.
-fn wide(x: u8) -> usize
-    ensures { λ r. ⌜ (r ≡ x) × (r < 256) ⌝ }
-{
-    x as usize
-}
-
-// A 32-bit number as an index.
-fn wide32(x: u32) -> usize
-    ensures { λ r. ⌜ (r ≡ x) × (r < 4294967296) ⌝ }
-{
-    x as usize
-}
-
-// An operation's number as an index.
-fn index(x: u16) -> usize
-    ensures { λ r. ⌜ (r ≡ x) × (r < 65536) ⌝ }
-{
-    x as usize
-}
-
 // The first cell of a Read or Write; 2^32 - 1 for another operation.
 fn first_cell(o: Operation) -> u32
     ensures { λ r. ⌜ r ≡ firstCell o ⌝ }
@@ -87,7 +66,7 @@ pub fn read_places(file: &[u8], table: &[u16], workers: &mut [u8; 1024], own: &m
     while k < n {
         let q = trace::worker_of(file, k);
         workers[k] = q;
-        own[k] = table[k * p + wide(q)];
+        own[k] = table[k * p + basics::byte_index(q)];
         k += 1;
     }
 }
@@ -169,14 +148,23 @@ fn list_unordered(
 {
     let p = trace::worker_count(file) as usize;
     let n = trace::operation_count(file) as usize;
-    let w = wide(workers[a]);
+    let w = basics::byte_index(workers[a]);
     let own_a = own[a];
     let mut count: usize = 0;
     let mut b = a + 1;
     while b < n {
-        let free = unordered_bit(table, p, a, w, own_a, b, wide(workers[b]), own[b]);
+        let free = unordered_bit(
+            table,
+            p,
+            a,
+            w,
+            own_a,
+            b,
+            basics::byte_index(workers[b]),
+            own[b],
+        );
         row[count] = b as u16;
-        count += wide32(marks[b] & free);
+        count += basics::wide_index(marks[b] & free);
         b += 1;
     }
     count
@@ -192,7 +180,7 @@ fn list_marked(file: &[u8], a: usize, marks: &[u32; 1024], row: &mut [u16; 1024]
     let mut b = a + 1;
     while b < n {
         row[count] = b as u16;
-        count += wide32(marks[b]);
+        count += basics::wide_index(marks[b]);
         b += 1;
     }
     count
@@ -213,16 +201,25 @@ fn keep_unordered(
     ensures { λ r. ⌜ RowHolds (raceRow (traceOf (now (file .entry))) a) r (now (row .exit)) ⌝ }
 {
     let p = trace::worker_count(file) as usize;
-    let w = wide(workers[a]);
+    let w = basics::byte_index(workers[a]);
     let own_a = own[a];
     let mut kept: usize = 0;
     let mut i: usize = 0;
     while i < count {
         let x = row[i];
-        let b = index(x);
-        let free = unordered_bit(table, p, a, w, own_a, b, wide(workers[b]), own[b]);
+        let b = basics::index(x);
+        let free = unordered_bit(
+            table,
+            p,
+            a,
+            w,
+            own_a,
+            b,
+            basics::byte_index(workers[b]),
+            own[b],
+        );
         row[kept] = x;
-        kept += wide32(free);
+        kept += basics::wide_index(free);
         i += 1;
     }
     kept
@@ -257,7 +254,7 @@ pub fn list_row(
     }
     let n = trace::operation_count(file) as usize;
     // Where most of the row is in conflict, one loop over all of it is faster than listing those first.
-    if 3 * wide32(count) < 2 * (n - a) {
+    if 3 * basics::wide_index(count) < 2 * (n - a) {
         let listed = list_marked(file, a, marks, row);
         return keep_unordered(file, table, workers, own, a, listed, row);
     }
@@ -274,7 +271,7 @@ pub fn pair_count(file: &[u8]) -> usize
     let mut count: usize = 0;
     let mut k: usize = 0;
     while k < n {
-        let q = wide(trace::worker_of(file, k));
+        let q = basics::byte_index(trace::worker_of(file, k));
         let same = seen[q];
         count += k - same;
         seen[q] = same + 1;

@@ -6,7 +6,7 @@ use native.Mathlib.Numerals.{add-one}
 use native.Mathlib.Omega.{arith}
 use Prim.Native.Nat.{ℕ, zero, suc, _+_, _<_, _≤_}
 use lib.ListN.{length, List·getD-eq-default}
-use Rattle.runs.proofs.Booleans.{equal?, less?}
+use Rattle.basics.proofs.Booleans.{equal?, less?}
 use Rattle.trace.specs.Trace.{Trace, size, operation, isAccess}
 use Rattle.race_search.specs.declared.Race.{Race}
 use Rattle.race_search.specs.Premises.{LowestHigher, raceBefore}

@@ -6,7 +6,7 @@ use native.Mathlib.Omega.{arith}
 use Prim.Native.Nat.{ℕ, _+_, _<_, _≤_}
 use lib.Dec.{leb, ltb}
 use borrow.Author.Tests.{leb-true, le-leb, ltb-true, lt-ltb}
-use Rattle.runs.proofs.Booleans.{both-pass, less?}
+use Rattle.basics.proofs.Booleans.{both-pass, less?}
 use Rattle.race_search.specs.Intervals.{InInterval, Common, overlap}
 
 pub end-outside : (first count : ℕ) → InInterval first count (first + count) → ⊥

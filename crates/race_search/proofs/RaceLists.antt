@@ -9,7 +9,7 @@ use native.Mathlib.Omega.{arith}
 use Prim.Native.Nat.{ℕ, zero, suc, _+_, _*_, _<_, _≤_}
 use lib.ListN.{length, getD, length-append, List·getD-append}
 use lib.Seq.{getD-append-seam}
-use Rattle.runs.proofs.Booleans.{equal?, less?}
+use Rattle.basics.proofs.Booleans.{equal?, less?}
 use Rattle.runs.proofs.Places.{getD-in, in-getD}
 use Rattle.trace.specs.Trace.{Trace, size}
 use Rattle.model.specs.Rule.{WorkersKnown}

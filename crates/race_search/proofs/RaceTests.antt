@@ -8,7 +8,7 @@ use Prim.Native.Nat.{ℕ, _<_, _≤_}
 use lib.Dec.{T, ltb}
 use lib.ListN.{List·getD-eq-default}
 use borrow.Author.Tests.{ltb-true, lt-ltb}
-use Rattle.runs.proofs.Booleans.{both-pass, either-passes, never-passes, less?}
+use Rattle.basics.proofs.Booleans.{both-pass, either-passes, never-passes, less?}
 use Rattle.trace.specs.Trace.{Trace, size, operation, workerOf, noOperation, isRead, isWrite, isAccess}
 use Rattle.trace.proofs.Answered.{both}
 use Rattle.model.specs.Computed.{unorderedIn, mustPrecedeIn}

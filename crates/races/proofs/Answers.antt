@@ -8,7 +8,7 @@ use Prim.Native.Nat.{ℕ, _<_, _≤_}
 use lib.ListN.{length, take}
 use lib.Seq.{take-length}
 use borrow.Author.Tests.{le-leb, lt-leb}
-use Rattle.runs.proofs.Booleans.{zero-one, less?}
+use Rattle.basics.proofs.Booleans.{zero-one, less?}
 use Rattle.trace.specs.Premises.{HoldsTrace}
 use Rattle.trace.specs.Reading.{Reading, refused, reads, traceOf}
 use Rattle.trace.specs.Refusals.{by-earlier, by-this}

@@ -21,8 +21,8 @@ use Rattle.race_search.specs.RaceList.{pair, raceList, raceCount}
 abbrev pub racesFit : ℕ → Trace → Bool
 racesFit room t = leb (raceCount t) room
 
--- questions 1 to 11 and 16, where the table holds `numbers` numbers: the refusal by the first "no", or the trace; the
--- place of 16 is "the number of races"
+-- the file's questions, 11 and 16, where the table holds `numbers` numbers: the refusal by the first "no", or the
+-- trace; the place of 16 is "the number of races"
 unfoldable pub racesReading : List ℕ → ℕ → ℕ → Reading
 racesReading bytes numbers room = thenAsk 16 (racesFit room) raceCount (tableReading bytes numbers)
 

@@ -1,8 +1,8 @@
--- Which refusal a file, a lent table and a lent race list get by questions 1 to 11 and 16.
+-- Which refusal a file, a lent table and a lent race list get by the file's questions, 11 and 16.
 -- Follows: document 01, "The questions": "the race list [asks] 11, 16"; the place of 16 is "the number of races".
--- Differs: nowhere. `AcceptedTable` and `RefusedTable`, for questions 1 to 11, are in the crate `order_table`, and
--- `RefusedNext`, for a further question, in `trace`. `raceCount` is the length of the only list of the races
--- (crate `race_search`, proofs/OnlyList). proofs/Questions shows that the call refuses exactly so.
+-- Differs: nowhere. `AcceptedTable` and `RefusedTable`, for the file's questions and 11, are in the crate
+-- `order_table`, and `RefusedNext`, for a further question, in `trace`. `raceCount` is the length of the only list of
+-- the races (crate `race_search`, proofs/OnlyList). proofs/Questions shows that the call refuses exactly so.
 use mathlib.Core.List.{List}
 use Prim.Native.Nat.{ℕ, _<_, _≤_}
 use Rattle.trace.specs.Refusals.{RefusedNext}
@@ -16,7 +16,7 @@ pub record AcceptedRaces (bytes : List ℕ) (numbers room : ℕ) (t : Trace) : T
   pub filled : AcceptedTable bytes numbers t
   pub list-holds : raceCount t ≤ room
 
--- the first "no" is one of questions 1 to 11; or there are more races than the list holds records
+-- the first "no" is one of the file's questions or 11; or there are more races than the list holds records
 abbrev pub RefusedRaces : List ℕ → ℕ → ℕ → ℕ → ℕ → Type 0
 RefusedRaces bytes numbers room =
     RefusedNext (RefusedTable bytes numbers) (AcceptedTable bytes numbers) 16 (λ t. room < raceCount t) raceCount

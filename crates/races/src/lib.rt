@@ -84,7 +84,8 @@ fn count_if_room(
     }
 }
 
-// Questions 1 to 11 and 16, where the list holds `room` records; the table is filled where 1 to 11 do not refuse.
+// Asks the file's questions, 11 and 16, where the list holds `room` records; the table is filled where those before 16
+// do not refuse.
 pub fn fill_and_count(file: &[u8], table: &mut [u16], room: usize) -> RacesAnswer
     ensures { λ r. ⌜ CountCall (now (file .entry)) (now (table .entry)) room r (now (table .exit)) ⌝ }
 {
@@ -236,8 +237,8 @@ fn list_if_room(
     }
 }
 
-// Questions 1 to 11 and 16 of any bytes, any table and any two lists; where none refuses, the races, and the order
-// table; where 16 does, the order table.
+// Asks the file's questions, 11 and 16, of any bytes, any table and any two lists; where none refuses, the races, and
+// the order table; where 16 does, the order table.
 pub fn races(file: &[u8], table: &mut [u16], lower: &mut [u16], higher: &mut [u16]) -> RacesAnswer
     ensures { λ r. ⌜ RacesCall (now (file .entry)) (now (table .entry)) (now (lower .entry)) (now (higher .entry)) r
         (now (table .exit)) (now (lower .exit)) (now (higher .exit)) ⌝ }

@@ -3,7 +3,7 @@
 use mathlib.Core.List.{List}
 use mathlib.Core.Path.{_≡_}
 use Prim.Native.Nat.{ℕ}
-use Rattle.runs.proofs.Booleans.{zero-one}
+use Rattle.basics.proofs.Booleans.{zero-one}
 use Rattle.trace.specs.Premises.{HoldsTrace}
 use Rattle.trace.specs.Reading.{refused, fileReading}
 use Rattle.trace.specs.Trace.{size}

@@ -1,4 +1,5 @@
-// Reading a trace file: questions 1 to 9 of any bytes. Only `read` is called from other crates; it requires nothing.
+// Reading a trace file: the questions of its header and of its records. Only `read` is called from other crates; it
+// requires nothing.
 ghost use mathlib.Core.List.{List};
 ghost use mathlib.Core.Path.{_≡_};
 ghost use Prim.Native.Nat.{_+_, _≤_};
@@ -15,7 +16,7 @@ use trace::MARK;
 use trace::Operation;
 use trace::RECORD_SIZE;
 
-// The worker count and the operation count of a file that questions 1 to 9 do not refuse, or the refusal.
+// The worker count and the operation count of a file that reads as a trace, or the refusal.
 pub enum ReadAnswer {
     Read { workers: u8, operations: u32 },
     Refused { number: u8, place: u32 },
@@ -104,8 +105,8 @@ fn kind_known(o: Operation) -> bool
 fn event_fits(o: Operation) -> bool
     ensures { λ r. ⌜ r ≡ eventFits o ⌝ }
 {
-    let fits = trace::both(o.number <= 255, o.length == 0);
-    trace::either(!trace::is_sync(o.kind), fits)
+    let fits = basics::both(o.number <= 255, o.length == 0);
+    basics::either(!trace::is_sync(o.kind), fits)
 }
 
 // Question 9.
@@ -113,11 +114,11 @@ fn cells_fit(o: Operation) -> bool
     ensures { λ r. ⌜ r ≡ cellsFit o ⌝ }
 {
     let end = (o.number as u64) + (o.length as u64);
-    let fit = trace::both(1 <= o.length, end <= 4294967296);
-    trace::either(!trace::is_access(o.kind), fit)
+    let fit = basics::both(1 <= o.length, end <= 4294967296);
+    basics::either(!trace::is_access(o.kind), fit)
 }
 
-// Questions 5 to 9 of the record at a place, whatever stands before it; 0 where none refuses.
+// The questions of the record at a place, whatever stands before it; 0 where none refuses.
 fn record_question(file: &[u8], at: usize, p: u8) -> u8
     requires { ⌜ at + recordSize base ≤ length (now file) ⌝ }
     ensures { λ r. ⌜ ((before : List Operation) → r ≡ recordQuestion base p before (drop at (now (file .entry)))) ⌝ }
@@ -141,7 +142,7 @@ fn record_question(file: &[u8], at: usize, p: u8) -> u8
     0
 }
 
-// Does none of questions 5 to 9 refuse the record at a place? All are asked, so that the answer hangs on no branch by
+// Does no question refuse the record at a place? All are asked, so that the answer hangs on no branch by
 // the kind.
 fn record_passes(file: &[u8], at: usize, p: u8) -> bool
     requires { ⌜ at + recordSize base ≤ length (now file) ⌝ }
@@ -149,12 +150,12 @@ fn record_passes(file: &[u8], at: usize, p: u8) -> bool
         → r ≡ eqb (recordQuestion base p before (drop at (now (file .entry)))) 0) ⌝ }
 {
     let o = trace::operation_in(file, at);
-    let kind = trace::both(worker_known(p, o), kind_known(o));
-    let number = trace::both(event_fits(o), cells_fit(o));
-    trace::both(is_marked(file, at), trace::both(kind, number))
+    let kind = basics::both(worker_known(p, o), kind_known(o));
+    let number = basics::both(event_fits(o), cells_fit(o));
+    basics::both(is_marked(file, at), basics::both(kind, number))
 }
 
-// Questions 5 to 9 of each record of a file of p workers and n operations, whose header no question refuses.
+// The questions of each record of a file of p workers and n operations, whose header no question refuses.
 fn read_records(file: &[u8], p: u8, n: u32) -> ReadAnswer
     requires { ⌜ HoldsHeader base (now file) p n ⌝ }
     ensures { λ r. ⌜ r ≡ answerOf (fileReading (now (file .entry))) ⌝ }
@@ -176,7 +177,7 @@ fn read_records(file: &[u8], p: u8, n: u32) -> ReadAnswer
     }
 }
 
-// Questions 1 to 9 of any bytes.
+// The questions of the header and of each record, of any bytes.
 pub fn read(file: &[u8]) -> ReadAnswer
     ensures { λ r. ⌜ r ≡ answerOf (fileReading (now (file .entry))) ⌝ }
 {

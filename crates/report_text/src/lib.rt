@@ -88,7 +88,8 @@ fn put_answer(output: &mut [u8], answer: RacesAnswer, lower: &[u16], higher: &[u
     }
 }
 
-// Questions 1 to 11 and 16 of any bytes, with space for 4,096 races; the report, and how many bytes it has.
+// Asks the file's questions, 11 and 16, of any bytes, with space for 4,096 races; the report, and how many bytes it
+// has.
 pub fn report(file: &[u8], output: &mut [u8; TEXT_SIZE]) -> usize
     ensures { λ r. ⌜ ReportCall (now (file .entry)) (now (output .entry)) r (now (output .exit)) ⌝ }
 {

@@ -8,7 +8,7 @@ use native.Mathlib.Omega.{arith}
 use Prim.Native.Nat.{ℕ, _+_, _-_, _*_, _<_, _≤_}
 use lib.ListN.{length, getD, set, take, drop, length-append, length-drop}
 use lib.Seq.{take-all, length-take-le, getD-drop}
-use Rattle.runs.proofs.Booleans.{less?}
+use Rattle.basics.proofs.Booleans.{less?}
 use Rattle.trace.specs.Premises.{HoldsTrace}
 use Rattle.trace.specs.Reading.{traceOf}
 use Rattle.trace.specs.Trace.{Trace, size}

@@ -6,12 +6,12 @@ use mathlib.Core.Logic.{inl, inr, _↔_, _≢_}
 use Prim.Native.Nat.{ℕ, _+_, _≤_}
 use native.Mathlib.Omega.{arith}
 use lib.ListN.{length, length-append}
-use Rattle.runs.specs.Membership.{_∉_, SameOperations}
+use Rattle.basics.specs.Membership.{_∉_, SameOperations}
+use Rattle.basics.proofs.Booleans.{equal?}
+use Rattle.basics.proofs.Members.{here, lacks-snoc}
 use Rattle.runs.specs.Rule.{Rule, Monotone}
 use Rattle.runs.specs.Run.{Run}
 use Rattle.runs.specs.Maximal.{MaximalWithout, LargestWithout, AddingEnds, ended, added}
-use Rattle.runs.proofs.Booleans.{equal?}
-use Rattle.runs.proofs.Members.{here, lacks-snoc}
 use Rattle.runs.proofs.RunSteps.{run-first, run-length}
 use Rattle.runs.proofs.RunsWithout.{without-monotone, run-without, maximal-without}
 use Rattle.runs.proofs.RunsWithout.{maximal-without-largest, maximal-without-same}

@@ -6,9 +6,9 @@ use mathlib.Core.List.{List, [], _∷_, _++_, List·Memᴰ·head, List·Memᴰ·
 use mathlib.Core.List.{map, map-append, Memᴰ·map}
 use mathlib.Core.Logic.{_⊎_, inl, inr, _≢_}
 use Prim.Native.Nat.{ℕ}
-use Rattle.runs.specs.Membership.{_∈_, Different, empty, fresh}
+use Rattle.basics.specs.Membership.{_∈_, Different, empty, fresh}
+use Rattle.basics.proofs.Members.{here, there}
 use Rattle.runs.specs.Run.{StandsBefore}
-use Rattle.runs.proofs.Members.{here, there}
 
 module _ {a b : ℕ} where
   pub before-here : {l : List ℕ} → b ∈ l → StandsBefore a b (a ∷ l)

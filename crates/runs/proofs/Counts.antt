@@ -9,14 +9,15 @@ use Prim.Native.Nat.{ℕ, zero, suc, _+_, _≤_, _<_}
 use native.Mathlib.Nat.{not-suc-le-zero}
 use native.Mathlib.Omega.{arith}
 use lib.Dec.{T, eqb, eqb→eq, eqb-refl}
-use Rattle.runs.specs.Membership.{_∈_, _∉_, _⊆_, SameOperations, Different, upTo}
+use Rattle.basics.specs.Membership.{_∈_, _∉_, _⊆_, SameOperations, Different, upTo}
+use Rattle.basics.proofs.Booleans.{equal?, less?}
+use Rattle.basics.proofs.Members.{there}
+use Rattle.basics.proofs.Lengths.{countIf-yes, countIf-no, different-count}
 use Rattle.runs.specs.Rule.{Rule, Monotone}
 use Rattle.runs.specs.Run.{Run}
 use Rattle.runs.specs.Steps.{Addable, Steps, stop, step, done}
 use Rattle.runs.specs.Workers.{InTurn, turn, count, earlier, Counted}
-use Rattle.runs.proofs.Booleans.{equal?, less?}
-use Rattle.runs.proofs.Members.{there, done-same}
-use Rattle.runs.proofs.Lengths.{countIf-yes, countIf-no, different-count}
+use Rattle.runs.proofs.Done.{done-same}
 use Rattle.runs.proofs.ProgramOrder.{turn-test}
 use Rattle.runs.proofs.RunSteps.{run-steps}
 

@@ -6,6 +6,7 @@ use mathlib.Core.List.{List, [], _∷_}
 use Prim.Native.Nat.{ℕ, _<_, _≤_}
 use native.Mathlib.Omega.{arith}
 use lib.Dec.{eqb, ltb}
+use Rattle.basics.proofs.Booleans.{booleans}
 use Rattle.runs.specs.Rule.{Monotone}
 use Rattle.runs.specs.Run.{Complete, StandsBefore}
 use Rattle.runs.specs.Maximal.{MaximalWithout}
@@ -13,7 +14,6 @@ use Rattle.runs.specs.MustPrecede.{MustPrecede}
 use Rattle.runs.specs.Greedy.{Preference, holdingBack}
 use Rattle.runs.specs.Workers.{InTurn, Ascending, LowestFirst, HoldsBack}
 use Rattle.runs.specs.Example.{workerOf, twoPosts, order}
-use Rattle.runs.proofs.Booleans.{booleans}
 use Rattle.runs.proofs.MonotoneTests.{grows-rule, grows-fixed, grows-mem, grows-and, grows-or, grows-turn}
 use Rattle.runs.proofs.ProgramOrder.{turn-in-turn}
 use Rattle.runs.proofs.CanonicalOrder.{canonical-preference, canonical-ascending}

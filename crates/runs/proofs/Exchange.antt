@@ -3,11 +3,12 @@
 use mathlib.Core.List.{List, [], _∷_, _++_, List·Memᴰ·head, List·Memᴰ·tail}
 use mathlib.Core.Logic.{_⊎_, inl, inr}
 use Prim.Native.Nat.{ℕ}
-use Rattle.runs.specs.Membership.{_∈_, _∉_, _⊆_}
+use Rattle.basics.specs.Membership.{_∈_, _∉_, _⊆_}
+use Rattle.basics.proofs.Members.{here, there, in?, in-by-contradiction, ⊆-nil, ⊆-cons}
 use Rattle.runs.specs.Rule.{Rule, Monotone}
 use Rattle.runs.specs.Run.{Run}
 use Rattle.runs.specs.Steps.{Addable, Closed, Steps, stop, step, done}
-use Rattle.runs.proofs.Members.{here, there, in?, in-by-contradiction, ⊆-nil, ⊆-cons, done-same}
+use Rattle.runs.proofs.Done.{done-same}
 use Rattle.runs.proofs.RunSteps.{run-steps, steps-run, steps-append, steps-rest, steps-head}
 
 -- some operation of s can be added to what is done

@@ -5,7 +5,8 @@ use mathlib.Core.Path.{_≡_, refl, sym, ap}
 use mathlib.Core.List.{List, [], _++_}
 use mathlib.Core.Logic.{_≢_}
 use Prim.Native.Nat.{ℕ, _<_}
-use Rattle.runs.specs.Membership.{_∈_}
+use Rattle.basics.specs.Membership.{_∈_}
+use Rattle.basics.proofs.Members.{in-by-contradiction, in-rest}
 use Rattle.runs.specs.Rule.{Rule, Monotone, without}
 use Rattle.runs.specs.Run.{Run, Complete, StandsBefore}
 use Rattle.runs.specs.Maximal.{Maximal, MaximalWithout}
@@ -13,7 +14,6 @@ use Rattle.runs.specs.MustPrecede.{MustPrecede}
 use Rattle.runs.specs.Steps.{done}
 use Rattle.runs.specs.Greedy.{Preference, greedyFrom, greedy, holdingBack}
 use Rattle.runs.specs.Workers.{InTurn, Ascending, HoldsBack}
-use Rattle.runs.proofs.Members.{in-by-contradiction, in-rest}
 use Rattle.runs.proofs.ProgramOrder.{without-in-turn}
 use Rattle.runs.proofs.RunSteps.{run-empty}
 use Rattle.runs.proofs.MaximalRuns.{maximal-complete}

@@ -1,12 +1,10 @@
--- The theorems. Tools: Booleans, Members, Lengths. How a rule is put together: MonotoneTests, ProgramOrder.
+-- The theorems. How a rule is put together: MonotoneTests, ProgramOrder. What is done: Done.
 -- The theory: Exchange, MaximalRuns, RunsWithout, CarryOn, AnyOrder, Before, SharedOrder, HoldingBack.
 -- The means against the definitions: RunSteps, GreedyRuns, Counts, Rows, CanonicalOrder, Places, LowestWorker.
 -- Example: one rule worked out.
-pub mod Booleans
-pub mod Members
-pub mod Lengths
 pub mod MonotoneTests
 pub mod ProgramOrder
+pub mod Done
 pub mod CanonicalOrder
 pub mod RunSteps
 pub mod Exchange

@@ -9,7 +9,7 @@ use Prim.Native.Nat.{ℕ, zero, suc, _≤_}
 use native.Mathlib.Omega.{arith}
 use native.Mathlib.Nat.{le-refl}
 use lib.Dec.{T, T-not}
-use Rattle.runs.specs.Membership.{_∈_}
+use Rattle.basics.specs.Membership.{_∈_}
 use Rattle.runs.specs.Rule.{Rule, Monotone}
 use Rattle.runs.specs.Run.{Run}
 use Rattle.runs.specs.Steps.{Addable, Closed, done, addable}

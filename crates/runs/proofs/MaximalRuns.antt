@@ -6,13 +6,14 @@ use mathlib.Core.Logic.{_↔_}
 use Prim.Native.Nat.{ℕ, _≤_, _<_}
 use native.Mathlib.Omega.{arith}
 use lib.ListN.{length, length-append}
-use Rattle.runs.specs.Membership.{_∉_, _⊆_, SameOperations}
+use Rattle.basics.specs.Membership.{_∉_, _⊆_, SameOperations}
+use Rattle.basics.proofs.Members.{here, ⊆-trans, different-apart}
+use Rattle.basics.proofs.Lengths.{different-length}
 use Rattle.runs.specs.Rule.{Rule, Monotone}
 use Rattle.runs.specs.Run.{Run, Complete}
 use Rattle.runs.specs.Maximal.{Maximal, Largest}
 use Rattle.runs.specs.Steps.{Closed, done}
-use Rattle.runs.proofs.Members.{here, ⊆-trans, done-same, different-apart}
-use Rattle.runs.proofs.Lengths.{different-length}
+use Rattle.runs.proofs.Done.{done-same}
 use Rattle.runs.proofs.Exchange.{add-run, run-added, closed-contains}
 
 module _ {R : Rule} (mono : Monotone R) where

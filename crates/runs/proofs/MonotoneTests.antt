@@ -5,11 +5,11 @@ use mathlib.Core.List.{List, [], _∷_}
 use mathlib.Core.Logic.{inl, inr}
 use Prim.Native.Nat.{ℕ}
 use lib.Dec.{T, eqb}
-use Rattle.runs.specs.Membership.{_⊆_, mem, allOf, anyOf, upTo}
+use Rattle.basics.specs.Membership.{_⊆_, mem, allOf, anyOf, upTo}
+use Rattle.basics.proofs.Booleans.{booleans, or-cases}
+use Rattle.basics.proofs.Members.{mem-test, any-test}
 use Rattle.runs.specs.Rule.{Rule, Monotone}
 use Rattle.runs.specs.Workers.{turn}
-use Rattle.runs.proofs.Booleans.{booleans, or-cases}
-use Rattle.runs.proofs.Members.{mem-test, any-test}
 
 pub record Grows (f : List ℕ → Bool) : Type 0 where
   pub keeps : (d e : List ℕ) → d ⊆ e → T (f d) → T (f e)

@@ -7,13 +7,13 @@ use mathlib.Core.List.{List}
 use mathlib.Core.Logic.{inl, inr, _↔_, _≢_}
 use Prim.Native.Nat.{ℕ, _≤_, _<_}
 use native.Mathlib.Omega.{arith}
-use Rattle.runs.specs.Membership.{_∈_}
+use Rattle.basics.specs.Membership.{_∈_}
+use Rattle.basics.proofs.Booleans.{less?}
 use Rattle.runs.specs.Rule.{Rule, Monotone}
 use Rattle.runs.specs.Maximal.{MaximalWithout}
 use Rattle.runs.specs.MustPrecede.{MustPrecede}
 use Rattle.runs.specs.Run.{Complete}
 use Rattle.runs.specs.Workers.{InTurn, count, earlier}
-use Rattle.runs.proofs.Booleans.{less?}
 use Rattle.runs.proofs.RunsWithout.{maximal-without-same}
 use Rattle.runs.proofs.SharedOrder.{must-precede-outside, must-precede-asymmetric}
 use Rattle.runs.proofs.Counts.{count-same, in-run, earlier-less, Nth, nth}

@@ -6,14 +6,15 @@ use Prim.Native.Nat.{ℕ, _≤_, _<_}
 use native.Mathlib.Omega.{arith}
 use lib.Dec.{T, ltb→lt, lt→ltb, T-not, not-T}
 use lib.ListN.{length, length-append}
-use Rattle.runs.specs.Membership.{_∈_, _∉_, SameOperations, Different, empty, fresh, mem}
+use Rattle.basics.specs.Membership.{_∈_, _∉_, SameOperations, Different, empty, fresh, mem}
+use Rattle.basics.proofs.Booleans.{booleans}
+use Rattle.basics.proofs.Members.{here, there, mem-test, in-by-contradiction, ⊆-refl}
+use Rattle.basics.proofs.Members.{same-snoc, different-apart}
+use Rattle.basics.proofs.Lengths.{below-length, holds-length}
 use Rattle.runs.specs.Rule.{Rule, Monotone}
 use Rattle.runs.specs.Run.{Run, Complete}
 use Rattle.runs.specs.Steps.{Addable, Steps, stop, step, done, addable, steps, isRun}
-use Rattle.runs.proofs.Booleans.{booleans}
-use Rattle.runs.proofs.Members.{here, there, mem-test, in-by-contradiction, ⊆-refl, done-same}
-use Rattle.runs.proofs.Members.{same-snoc, different-apart}
-use Rattle.runs.proofs.Lengths.{below-length, holds-length}
+use Rattle.runs.proofs.Done.{done-same}
 
 module _ {R : Rule} where
   -- ---- steps put together and taken apart

@@ -6,12 +6,12 @@ use mathlib.Core.Logic.{inl, inr, _↔_, Iff·trans, Iff·symm}
 use Prim.Native.Nat.{ℕ, _≤_}
 use lib.Dec.{T, eqb, eqb→eq, eqb-refl, T-not, not-T}
 use lib.ListN.{length}
-use Rattle.runs.specs.Membership.{_∉_, _⊆_, SameOperations}
+use Rattle.basics.specs.Membership.{_∉_, _⊆_, SameOperations}
+use Rattle.basics.proofs.Booleans.{booleans, equal?}
+use Rattle.basics.proofs.Members.{here, in-split, lacks-snoc}
 use Rattle.runs.specs.Rule.{Rule, Monotone, without}
 use Rattle.runs.specs.Run.{Run}
 use Rattle.runs.specs.Maximal.{Maximal, Largest, MaximalWithout, LargestWithout}
-use Rattle.runs.proofs.Booleans.{booleans, equal?}
-use Rattle.runs.proofs.Members.{here, in-split, lacks-snoc}
 use Rattle.runs.proofs.MaximalRuns.{maximal-contains, maximal-same, maximal-largest}
 
 pub without-monotone : {R : Rule} → Monotone R → (a : ℕ) → Monotone (without R a)

@@ -6,14 +6,14 @@ use mathlib.Core.List.{List, [], _∷_, _++_, append-assoc, Memᴰ·append-right
 use mathlib.Core.Logic.{inl, inr, _↔_, _≢_}
 use Prim.Native.Nat.{ℕ, _<_}
 use lib.Dec.{T, eqb, eqb→eq, eqb-refl, T-not, not-T}
-use Rattle.runs.specs.Membership.{_∈_, _∉_, _⊆_, mem}
+use Rattle.basics.specs.Membership.{_∈_, _∉_, _⊆_, mem}
+use Rattle.basics.proofs.Booleans.{booleans}
+use Rattle.basics.proofs.Members.{here, mem-test, in-rest, lacks-snoc}
 use Rattle.runs.specs.Rule.{Rule, Monotone, without}
 use Rattle.runs.specs.Run.{Run, Complete, StandsBefore}
 use Rattle.runs.specs.Maximal.{MaximalWithout}
 use Rattle.runs.specs.MustPrecede.{MustPrecede}
 use Rattle.runs.specs.Greedy.{Preference, greedy, mustPrecede}
-use Rattle.runs.proofs.Booleans.{booleans}
-use Rattle.runs.proofs.Members.{here, mem-test, in-rest, lacks-snoc}
 use Rattle.runs.proofs.RunSteps.{run-first}
 use Rattle.runs.proofs.RunsWithout.{maximal-without-contains, maximal-without-same}
 use Rattle.runs.proofs.GreedyRuns.{greedy-without-maximal}

@@ -8,7 +8,7 @@ use mathlib.Core.Bool.{true, false, not, _&&_, _||_, cond}
 use mathlib.Core.List.{List, [], _∷_}
 use Prim.Native.Nat.{ℕ, _%_}
 use lib.Dec.{eqb, ltb}
-use Rattle.runs.specs.Membership.{mem}
+use Rattle.basics.specs.Membership.{mem}
 use Rattle.runs.specs.Rule.{Rule, without}
 use Rattle.runs.specs.Steps.{isRun}
 use Rattle.runs.specs.Greedy.{greedy, mustPrecede, holdingBack}

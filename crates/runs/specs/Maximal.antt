@@ -10,7 +10,7 @@ use mathlib.Core.List.{List, [], _∷_, _++_}
 use mathlib.Core.Logic.{_≢_}
 use Prim.Native.Nat.{ℕ, _≤_}
 use lib.ListN.{length}
-use Rattle.runs.specs.Membership.{_∉_}
+use Rattle.basics.specs.Membership.{_∉_}
 use Rattle.runs.specs.Rule.{Rule}
 use Rattle.runs.specs.Run.{Run}
 

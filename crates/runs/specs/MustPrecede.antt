@@ -6,7 +6,7 @@
 use mathlib.Core.List.{List}
 use mathlib.Core.Logic.{_≢_}
 use Prim.Native.Nat.{ℕ}
-use Rattle.runs.specs.Membership.{_∉_}
+use Rattle.basics.specs.Membership.{_∉_}
 use Rattle.runs.specs.Rule.{Rule}
 use Rattle.runs.specs.Maximal.{MaximalWithout}
 

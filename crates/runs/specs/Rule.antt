@@ -6,7 +6,7 @@ use mathlib.Core.Bool.{Bool, not, _&&_}
 use mathlib.Core.List.{List}
 use Prim.Native.Nat.{ℕ}
 use lib.Dec.{T, eqb}
-use Rattle.runs.specs.Membership.{_⊆_}
+use Rattle.basics.specs.Membership.{_⊆_}
 
 pub record Rule : Type 0 where
   -- how many operations there are: those numbered below it

@@ -5,7 +5,7 @@ use mathlib.Core.Path.{_≡_}
 use mathlib.Core.List.{List, _∷_, _++_}
 use Prim.Native.Nat.{ℕ, _<_}
 use lib.Dec.{T}
-use Rattle.runs.specs.Membership.{_∈_, Different}
+use Rattle.basics.specs.Membership.{_∈_, Different}
 use Rattle.runs.specs.Rule.{Rule}
 
 -- document 01: "A run is a list of different operations in which" the rule allows each after those before it.

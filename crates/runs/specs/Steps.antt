@@ -7,7 +7,7 @@ use mathlib.Core.Bool.{Bool, true, not, _&&_}
 use mathlib.Core.List.{List, [], _∷_}
 use Prim.Native.Nat.{ℕ, _<_}
 use lib.Dec.{T, ltb}
-use Rattle.runs.specs.Membership.{_∉_, mem}
+use Rattle.basics.specs.Membership.{_∉_, mem}
 use Rattle.runs.specs.Rule.{Rule}
 
 -- x can be added when d is done

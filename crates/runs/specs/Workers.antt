@@ -9,7 +9,7 @@ use mathlib.Core.Bool.{Bool, not, _||_, cond}
 use mathlib.Core.List.{List, [], _∷_, _++_}
 use Prim.Native.Nat.{ℕ, zero, suc, _<_, _≤_}
 use lib.Dec.{T, eqb}
-use Rattle.runs.specs.Membership.{_∈_, upTo, countIf, mem, allOf}
+use Rattle.basics.specs.Membership.{_∈_, upTo, countIf, mem, allOf}
 use Rattle.runs.specs.Rule.{Rule, without}
 use Rattle.runs.specs.Steps.{Addable, Closed, done}
 

@@ -12,19 +12,20 @@ use lib.Dec.{eqb, ltb}
 use lib.ListN.{length, getD, set, take}
 use lib.Seq.{getD-set-same}
 use borrow.Author.Tests.{ne-eqb}
+use Rattle.basics.specs.Membership.{_∉_}
+use Rattle.basics.proofs.Booleans.{equal?, less?, zero-one}
+use Rattle.basics.proofs.Members.{lacks-snoc}
 use Rattle.runs.specs.Maximal.{MaximalWithout}
-use Rattle.runs.specs.Membership.{_∉_}
 use Rattle.runs.specs.Rule.{without}
 use Rattle.runs.specs.Run.{Run}
 use Rattle.runs.specs.Steps.{done}
 use Rattle.runs.specs.Workers.{earlier}
 use Rattle.runs.proofs.Before.{before-first}
-use Rattle.runs.proofs.Booleans.{equal?, less?, zero-one}
 use Rattle.runs.proofs.Counts.{counted-nothing, earlier-less, run-counted}
+use Rattle.runs.proofs.Done.{done-append}
 use Rattle.runs.proofs.Exchange.{exchange}
 use Rattle.runs.proofs.GreedyRuns.{greedy-from-maximal}
 use Rattle.runs.proofs.MaximalRuns.{maximal-closed}
-use Rattle.runs.proofs.Members.{done-append, lacks-snoc}
 use Rattle.runs.proofs.Rows.{row-own}
 use Rattle.runs.proofs.RunSteps.{run-empty}
 use Rattle.runs.proofs.RunsWithout.{without-monotone, run-without, maximal-without}

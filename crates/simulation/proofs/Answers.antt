@@ -9,9 +9,9 @@ use lib.Dec.{T, leb, T-not, not-T}
 use lib.ListN.{length, getD, take}
 use lib.Seq.{ext-getD, getD-take, length-take-le}
 use borrow.Author.Tests.{ne-eqb, leb-true, le-leb}
-use Rattle.runs.specs.Membership.{mem}
-use Rattle.runs.proofs.Booleans.{test-equal, test-true, less?}
-use Rattle.runs.proofs.Members.{mem-test}
+use Rattle.basics.specs.Membership.{mem}
+use Rattle.basics.proofs.Booleans.{test-equal, test-true, less?}
+use Rattle.basics.proofs.Members.{mem-test}
 use Rattle.trace.specs.Trace.{Trace, size, workerOf}
 use Rattle.model.specs.Computed.{largestRunWithout, row, mustPrecedeIn}
 use Rattle.model.specs.LargestRuns.{MaximalExecution}

@@ -9,10 +9,10 @@ use Prim.Native.Nat.{ℕ, zero, suc, _<_, _≤_}
 use lib.Dec.{ltb}
 use lib.ListN.{getD}
 use borrow.Author.Tests.{ltb-true, ltb-false}
-use Rattle.runs.specs.Membership.{_∈_, _∉_, upTo}
+use Rattle.basics.specs.Membership.{_∈_, _∉_, upTo}
+use Rattle.basics.proofs.Booleans.{equal?, less?}
 use Rattle.runs.specs.Steps.{done}
 use Rattle.runs.specs.Workers.{count, earlier}
-use Rattle.runs.proofs.Booleans.{equal?, less?}
 use Rattle.runs.proofs.Counts.{count-done, counted-in, earlier-less}
 use Rattle.trace.specs.Trace.{Trace, size, workerOf}
 use Rattle.index.specs.Indexed.{Rth}

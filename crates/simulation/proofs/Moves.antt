@@ -5,10 +5,10 @@ use mathlib.Core.List.{List}
 use mathlib.Core.Path.{_≡_, refl, sym, ap, _∙_}
 use Prim.Native.Nat.{ℕ, _<_, _≤_}
 use lib.Dec.{T, eqb, ltb, lt→ltb}
+use Rattle.basics.proofs.Booleans.{booleans, test-true, zero-one}
 use Rattle.runs.specs.Rule.{Rule, without}
 use Rattle.runs.specs.Steps.{Addable, Closed}
 use Rattle.runs.specs.Workers.{count, earlier, Counted, LowestAddable}
-use Rattle.runs.proofs.Booleans.{booleans, test-true, zero-one}
 use Rattle.runs.proofs.Counts.{addable-next, next-turn, next-new}
 use Rattle.runs.proofs.ProgramOrder.{without-in-turn}
 use Rattle.trace.specs.Trace.{Trace, size, operation, workerOf, isWait}

@@ -9,8 +9,8 @@ use Prim.Native.Nat.{ℕ, _+_, _<_}
 use lib.Dec.{T, eqb, eqb→eq}
 use lib.ListN.{length, getD, set, length-set}
 use lib.Seq.{getD-set-same, getD-set-other}
+use Rattle.basics.proofs.Booleans.{equal?}
 use Rattle.runs.specs.Workers.{count}
-use Rattle.runs.proofs.Booleans.{equal?}
 use Rattle.runs.proofs.Counts.{count-own, count-other}
 use Rattle.trace.specs.Trace.{Trace, size, operation, workerOf, isPost}
 use Rattle.model.specs.Rule.{posted}

@@ -6,11 +6,11 @@ use mathlib.Core.Logic.{_⊎_, inl, inr}
 use mathlib.Core.Path.{_≡_, sym, ap, _∙_}
 use native.Mathlib.Nat.{le-refl}
 use Prim.Native.Nat.{ℕ, zero, suc, _<_, _≤_}
+use Rattle.basics.proofs.Booleans.{less?}
 use Rattle.runs.specs.Greedy.{greedyFrom}
 use Rattle.runs.specs.Rule.{Rule, without}
 use Rattle.runs.specs.Steps.{done}
 use Rattle.runs.specs.Workers.{Counted}
-use Rattle.runs.proofs.Booleans.{less?}
 use Rattle.runs.proofs.Counts.{counted-nothing, counted-add}
 use Rattle.runs.proofs.GreedyRuns.{greedy-stop, greedy-without-none}
 use Rattle.runs.proofs.LowestWorker.{greedy-step}

@@ -7,9 +7,9 @@ use mathlib.Core.List.{List, []}
 use mathlib.Core.Path.{_≡_}
 use Prim.Native.Nat.{ℕ}
 use lib.ListN.{length, getD}
+use Rattle.basics.specs.Membership.{_∉_}
 use Rattle.runs.specs.Greedy.{greedyFrom}
 use Rattle.runs.specs.Maximal.{MaximalWithout}
-use Rattle.runs.specs.Membership.{_∉_}
 use Rattle.runs.specs.Rule.{without}
 use Rattle.runs.specs.Run.{Run}
 use Rattle.runs.specs.Steps.{done}

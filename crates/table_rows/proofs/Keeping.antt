@@ -8,8 +8,8 @@ use native.Mathlib.Nat.{suc-mul, mul-le-mul-right}
 use Prim.Native.Nat.{ℕ, suc, _+_, _-_, _*_, _<_, _≤_}
 use lib.ListN.{length, getD, set, take, replicate}
 use lib.Seq.{length-take-le}
+use Rattle.basics.proofs.Booleans.{zero-one}
 use Rattle.runs.specs.Workers.{earlier}
-use Rattle.runs.proofs.Booleans.{zero-one}
 use Rattle.trace.specs.Premises.{HoldsTrace}
 use Rattle.trace.specs.Reading.{traceOf}
 use Rattle.trace.specs.Trace.{Trace, size, operation, workerOf, isPost}

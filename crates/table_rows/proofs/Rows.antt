@@ -8,7 +8,7 @@ use native.Mathlib.Omega.{arith}
 use Prim.Native.Nat.{ℕ, zero, suc, _+_, _-_, _*_, _/_, _%_, _<_, _≤_}
 use lib.ListN.{length, getD, take, drop, length-append, length-drop, List·getD-append}
 use lib.Seq.{take-at, drop-at, getD-take, getD-drop, getD-append-add, length-take-le, ext-getD}
-use Rattle.runs.proofs.Booleans.{equal?, less?}
+use Rattle.basics.proofs.Booleans.{equal?, less?}
 use Rattle.trace.specs.Premises.{HoldsTrace}
 use Rattle.trace.specs.Reading.{traceOf}
 use Rattle.trace.specs.Trace.{Trace, size}

@@ -12,13 +12,6 @@ ghost use Rattle.lent.specs.Written.{writtenOver};
 ghost use Rattle.table_rows.specs.Filling.{RoomAt, Fillable, rowPut, FillsPart};
 ghost use Rattle.table_rows.specs.Rows.{orderTable};
 
-// A 16-bit number as an index.
-fn wide(x: u16) -> usize
-    ensures { λ r. ⌜ (r ≡ x) × (r < 65536) ⌝ }
-{
-    x as usize
-}
-
 // Writes a row: the done counts of as many workers as it has numbers.
 fn write_row(done: &[u16; 16], part: &mut [u16])
     requires { ⌜ (length (now part) ≤ 16) × (length (now part) ≤ length (now done)) ⌝ }
@@ -86,10 +79,10 @@ fn fill_worker(
     let mut events = start.events;
     let mut notes = [0u16; 16];
     let mut freed = true;
-    let mut at = wide(starts[q]);
-    let end = wide(starts[q + 1]);
+    let mut at = basics::index(starts[q]);
+    let end = basics::index(starts[q + 1]);
     while at < end {
-        let k = wide(order[at]);
+        let k = basics::index(order[at]);
         exhaust(
             file,
             p,

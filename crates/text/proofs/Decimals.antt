@@ -7,8 +7,8 @@ use native.Mathlib.Omega.{arith}
 use Prim.Native.Nat.{ℕ, zero, suc, _-_, _*_, _/_, _%_, _^_, _<_, _≤_}
 use lib.ListN.{length, length-append}
 use borrow.Author.Tests.{lt-ltb, le-ltb}
+use Rattle.basics.proofs.Booleans.{less?}
 use Rattle.io.specs.Digits.{digits, Fewest, glyph}
-use Rattle.runs.proofs.Booleans.{less?}
 use Rattle.text.specs.Decimal.{digit, decimalWithin, decimal}
 
 -- ---- its equations

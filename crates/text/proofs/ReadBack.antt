@@ -7,7 +7,7 @@ use native.Mathlib.Omega.{arith}
 use Prim.Native.Nat.{ℕ, zero, suc, _+_, _-_, _*_, _/_, _%_, _<_, _≤_}
 use lib.ListN.{length, drop}
 use lib.Seq.{drop-at}
-use Rattle.runs.proofs.Booleans.{less?}
+use Rattle.basics.proofs.Booleans.{less?}
 use Rattle.text.specs.Ascii.{ascii}
 use Rattle.text.specs.Decimal.{digit, decimal}
 use Rattle.text.specs.Lines.{labelled, pairLine}

@@ -54,7 +54,7 @@ pub record Answered (p : ℕ) (o : Operation) : Type 0 where
   pub event : eventFits o ≡ true
   pub cells : cellsFit o ≡ true
 
--- questions 6 to 9 are answered yes exactly of the operations that are admitted
+-- they are answered yes exactly of the operations that are admitted
 pub answered-admitted : {p : ℕ} {o : Operation} → Answered p o → Admitted p o
 unfolding kindKnown eventFits cellsFit
 answered-admitted {p} {o} a =
@@ -83,25 +83,6 @@ admitted-answered {p} {o} a =
       cells = if-asked (isAccess (o .kind)) _
           (λ h. simp (le-leb 1 (o .length) (a .cells h .0), le-leb (o .number + o .length) 4294967296 (a .cells h .1)));
     }
-
--- an admitted operation is a Post or Wait, or a Read or Write
-pub kind-cases : {p : ℕ} {o : Operation} → Admitted p o → T (isSync (o .kind)) ⊎ T (isAccess (o .kind))
-unfolding isSync isAccess
-kind-cases {p} {o} a = go (o .kind) (a .kind .0) (a .kind .1)
-  where
-    go : (k : ℕ) → 1 ≤ k → k ≤ 4 → T (isSync k) ⊎ T (isAccess k)
-    go zero l u = absurd (omega arith)
-    go (suc zero) l u = inl tt
-    go (suc (suc zero)) l u = inl tt
-    go (suc (suc (suc zero))) l u = inr tt
-    go (suc (suc (suc (suc zero)))) l u = inr tt
-    go (suc (suc (suc (suc (suc k))))) l u = absurd (omega arith)
-
--- its number has four bytes
-pub number-fits : {p : ℕ} {o : Operation} → Admitted p o → o .number < 256 ^ 4
-number-fits a =
-    elim (kind-cases a)
-    [ inl h ↦ omega (arith, a .event h .0) | inr h ↦ omega (arith, a .cells h .0, a .cells h .1) ]
 
 -- ---- the questions of a record
 

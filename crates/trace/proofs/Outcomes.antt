@@ -1,12 +1,14 @@
--- How the questions of any call come out. In order: a refusal is no trace; a further question; what the call's answer
--- says, where `answer` makes it of how the questions come out.
+-- How the questions of any call come out. In order: a refusal is no trace; a further question, and its number; what the
+-- call's answer says, where `answer` makes it of how the questions come out.
 use mathlib.Core.Bool.{Bool, true, false, _&&_}
+use mathlib.Core.List.{List, [], _∷_, _++_, List·Memᴰ·head, Memᴰ·append-left, Memᴰ·append-right}
 use mathlib.Core.Logic.{_⊎_, _↔_, Iff·trans}
 use mathlib.Core.Path.{_≡_, refl, sym, ap, _∙_}
 use Prim.Native.Nat.{ℕ, _<_, _≤_}
 use lib.Dec.{leb, ltb}
 use borrow.Author.Tests.{leb-true, leb-false, le-leb, lt-leb, ltb-true, ltb-false, lt-ltb, le-ltb}
-use Rattle.runs.proofs.Booleans.{zero-one, both-pass, one-fails}
+use Rattle.basics.specs.Membership.{_∈_}
+use Rattle.basics.proofs.Booleans.{zero-one, both-pass, one-fails}
 use Rattle.trace.specs.Reading.{Reading, refused, reads, thenAsk}
 use Rattle.trace.specs.Refusals.{RefusedNext, by-earlier, by-this}
 use Rattle.trace.specs.Trace.{Trace}
@@ -109,6 +111,13 @@ module _ (number : ℕ) {holds : Trace → Bool} (place : Trace → ℕ) {Passed
   pub ask-next : {r : Reading} {RefusedBy : ℕ → ℕ → Type 0} → ComesOut r Passed RefusedBy
       → ComesOut (thenAsk number holds place r) (λ t. Passed t × Yes t) (RefusedNext RefusedBy Passed number No place)
   ask-next {r} c = record { passes = asked-reads r c; refuses = asked-refused r c }
+
+-- the numbers of refusals: those of the questions before, and this one's
+pub next-number : (before : List ℕ) {Before : ℕ → ℕ → Type 0} {Passed No : Trace → Type 0} {place : Trace → ℕ}
+    {number q k : ℕ} → (Before q k → q ∈ before) → RefusedNext Before Passed number No place q k
+    → q ∈ before ++ number ∷ []
+next-number before {number = number} f (by-earlier r) = Memᴰ·append-left (number ∷ []) (f r)
+next-number before f (by-this t p l n z) = Memᴰ·append-right before (List·Memᴰ·head n)
 
 -- ---- what the answer says
 

@@ -18,7 +18,7 @@ use Rattle.trace.specs.Questions.{operationIn, marked, ranked, headerQue
 use Rattle.trace.specs.Reading.{Reading, refused, reads, reading, readingFrom}
 use Rattle.trace.specs.Refusals.{operationsIn}
 use Rattle.trace.specs.Trace.{Trace, size, operation, noOperation, rankAfter}
-use Rattle.trace.specs.Writing.{recordBytes, recordsBytes, bytesOf, header, Admitted, WellFormed, Bytes}
+use Rattle.trace.specs.Writing.{recordBytes, recordsBytes, bytesOf, header, Admitted, Fits, WellFormed, Bytes}
 use Rattle.trace.proofs.Answered.{both, answered-admitted, record-answered, HeaderAnswered, header-answered}
 use Rattle.trace.proofs.LittleEndian.{length-digits, digits-bytes, digits-value, value-below, tail-bytes}
 use Rattle.trace.proofs.LittleEndian.{drop-bytes}
@@ -122,10 +122,14 @@ records-read f p (suc left) before bytes t h l e =
 
 -- ---- the file
 
--- a record's length has two bytes
-length-fits : (bytes : List ℕ) → Bytes bytes → operationIn bytes .length < 65536
+-- what a record holds fits it
+operation-fits : (bytes : List ℕ) → Bytes bytes → Fits (operationIn bytes)
 unfolding operationIn
-length-fits bytes h = value-below 2 (drop 8 bytes) (drop-bytes 8 bytes h)
+operation-fits bytes h =
+    record {
+      number = value-below 4 (drop 4 bytes) (drop-bytes 4 bytes h);
+      length = value-below 2 (drop 8 bytes) (drop-bytes 8 bytes h);
+    }
 
 module _ (f : Form) (bytes : List ℕ) (t : Trace) (e : reading f bytes ≡ reads t) where
   pub header-yes : headerQuestion f bytes ≡ 0
@@ -161,7 +165,7 @@ module _ (f : Form) (bytes : List ℕ) (t : Trace) (e : reading f bytes ≡ read
   reads-count =
       sym (length-operations f (operationIn bytes .number) (drop (recordSize f) bytes)) ∙ ap length reads-operations
 
-  -- no question from 6 to 9 refuses an operation of the trace
+  -- no question refuses an operation of the trace
   pub reads-admitted : (k : ℕ) → k < size t → Admitted (t .workers) (operation t k)
   reads-admitted k h =
       let header = operationIn bytes in
@@ -202,7 +206,7 @@ module _ (f : Form) (bytes : List ℕ) (t : Trace) (e : reading f bytes ≡ read
           most = omega (arith, header-says .most, reads-workers);
           few = omega (arith, header-says .few, reads-count);
           each = reads-admitted;
-          short = λ k l. rw (reads-at k l) (length-fits (drop (start f k) bytes) (drop-bytes (start f k) bytes h));
+          fits = λ k l. rw (reads-at k l) (operation-fits (drop (start f k) bytes) (drop-bytes (start f k) bytes h));
         }
 
 -- A file reads as trace t exactly if it is the bytes of t, and t is well-formed.

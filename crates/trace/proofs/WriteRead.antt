@@ -14,16 +14,11 @@ use Rattle.trace.specs.LittleEndian.{digits}
 use Rattle.trace.specs.Questions.{operationIn, marked, ranked, headerQuestion, recordQuestion}
 use Rattle.trace.specs.Reading.{reads, reading, readingFrom}
 use Rattle.trace.specs.Trace.{Trace, size, noOperation, rankAfter}
-use Rattle.trace.specs.Writing.{recordBytes, recordsBytes, bytesOf, header, Admitted, WellFormed}
-use Rattle.trace.proofs.Answered.{admitted-answered, number-fits, answered-record, answered-header}
+use Rattle.trace.specs.Writing.{recordBytes, recordsBytes, bytesOf, header, Admitted, Fits, WellFormed}
+use Rattle.trace.proofs.Answered.{admitted-answered, answered-record, answered-header}
 use Rattle.trace.proofs.LittleEndian.{value-digits, value-append, length-digits}
 
 -- ---- one record, and what follows it
-
--- the fields fit their widths
-pub record Fits (o : Operation) : Type 0 where
-  pub number : o .number < 256 ^ 4
-  pub length : o .length < 256 ^ 2
 
 module _ (f : Form) (r : ℕ) (o : Operation) where
   pub length-record : length (recordBytes f r o) ≡ recordSize f
@@ -55,18 +50,18 @@ module _ (f : Form) (r : ℕ) (o : Operation) where
 -- operations that records can hold and that no question refuses
 pub record Storable (p : ℕ) (os : List Operation) : Type 0 where
   pub each : (k : ℕ) → k < length os → Admitted p (getD os k noOperation)
-  pub short : (k : ℕ) → k < length os → getD os k noOperation .length < 65536
+  pub fits : (k : ℕ) → k < length os → Fits (getD os k noOperation)
 
 module _ {p : ℕ} {o : Operation} {os : List Operation} (h : Storable p (o ∷ os)) where
   pub storable-first : Admitted p o
   storable-first = h .each 0 (omega arith)
 
   pub storable-fits : Fits o
-  storable-fits = record { number = number-fits storable-first; length = h .short 0 (omega arith) }
+  storable-fits = h .fits 0 (omega arith)
 
   pub storable-rest : Storable p os
   storable-rest =
-      record { each = λ k l. h .each (suc k) (omega arith); short = λ k l. h .short (suc k) (omega arith) }
+      record { each = λ k l. h .each (suc k) (omega arith); fits = λ k l. h .fits (suc k) (omega arith) }
 
 question-record : (f : Form) (p : ℕ) (before : List Operation) (o : Operation) (rest : List ℕ) → Admitted p o → Fits o
     → recordQuestion f p before (recordBytes f (rankAfter before o) o ++ rest) ≡ 0
@@ -163,4 +158,4 @@ module _ (f : Form) (t : Trace) (w : WellFormed t) where
         count-read,
         drop-record f 0 (header t) (recordsBytes f [] (t .operations)),
       )
-      (reading-records f (t .workers) [] (t .operations) (record { each = w .each; short = w .short }))
+      (reading-records f (t .workers) [] (t .operations) (record { each = w .each; fits = w .fits }))

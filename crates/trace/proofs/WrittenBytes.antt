@@ -33,7 +33,7 @@ module _ (f : Form) (first : f .first < 256) (second : f .second < 256) where
   file-bytes t w =
       append-bytes _ _
       (record-bytes 0 (header t) (omega (arith, w .most)) (omega arith))
-      (records-bytes (t .workers) [] (t .operations) (w .most) (record { each = w .each; short = w .short }))
+      (records-bytes (t .workers) [] (t .operations) (w .most) (record { each = w .each; fits = w .fits }))
 
 -- Each well-formed trace has a file of document 01's form, and reading it gives the trace back.
 pub trace-file : (t : Trace) → WellFormed t → Bytes (bytesOf base t) × (fileReading (bytesOf base t) ≡ reads t)

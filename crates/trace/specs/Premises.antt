@@ -8,7 +8,7 @@ use Rattle.trace.specs.Reading.{fileReading, reads, traceOf}
 use Rattle.trace.specs.Trace.{size, operation}
 use Rattle.trace.specs.Writing.{Admitted}
 
--- questions 1 to 9 do not refuse the file, and its trace has p workers and n operations
+-- the file reads as a trace, of p workers and n operations
 pub record HoldsTrace (bytes : List ℕ) (p n : ℕ) : Type 0 where
   pub trace : fileReading bytes ≡ reads (traceOf bytes)
   pub workers : traceOf bytes .workers ≡ p

@@ -1,9 +1,9 @@
--- Questions 1 to 9, each a test; and the number that the first "no" gives.
+-- The questions of a header and of a record, each a test; and the number that the first "no" gives.
 -- Follows: document 01, "Trace file" and "The questions"; each question has its wording as a comment.
 -- Differs: the form is a parameter, and the 10 of questions 1 and 4 is its record size. Question 23 (document 02,
 -- request 8) is asked of the bytes of the form's rank field: of `base`, which has none, it is always answered yes.
 use mathlib.Core.Bool.{Bool, true, _&&_, cond}
-use mathlib.Core.List.{List, [], _∷_}
+use mathlib.Core.List.{List, [], _∷_, _++_}
 use Prim.Native.Nat.{ℕ, _+_, _*_}
 use lib.Dec.{eqb, ltb, leb}
 use lib.ListN.{getD, length, drop}
@@ -103,17 +103,16 @@ cellsFit o = cond (isAccess (o .kind)) (leb 1 (o .length) && leb (o .number + o 
 
 -- 23. Is the rank "the count of its worker's records so far, itself included"? This is `ranked` at that count.
 
--- asked of a record that stands behind those of the operations `before`, in a file of p workers
+-- asked of the operation of a record, in a file of p workers
+abbrev pub operationQuestions : ℕ → Operation → List Question
+operationQuestions p o =
+    ask 6 (workerKnown p o) ∷ ask 7 (kindKnown o) ∷ ask 8 (eventFits o) ∷ ask 9 (cellsFit o) ∷ []
+
+-- asked of a record that stands behind those of the operations `before`
 abbrev pub recordQuestions : Form → ℕ → List Operation → List ℕ → List Question
 recordQuestions f p before bytes =
     let o = operationIn bytes in
-    ask 5 (marked f bytes)
-    ∷ ask 6 (workerKnown p o)
-    ∷ ask 7 (kindKnown o)
-    ∷ ask 8 (eventFits o)
-    ∷ ask 9 (cellsFit o)
-    ∷ ask 23 (ranked f (rankAfter before o) bytes)
-    ∷ []
+    ask 5 (marked f bytes) ∷ (operationQuestions p o ++ ask 23 (ranked f (rankAfter before o) bytes) ∷ [])
 
 -- the number of the question that refuses the record; 0 where none does
 unfoldable pub recordQuestion : Form → ℕ → List Operation → List ℕ → ℕ

@@ -1,11 +1,11 @@
--- Which refusal a file gets, said without following the reader: by the first "no".
+-- Which refusal a file gets, said without following the reader: by the first "no"; and which numbers there are.
 -- Follows: document 01, "The questions": "asked in this order; the first 'no' gives its number", "then record by record
 -- in file order"; "a refusal is the number and a place: the operation number for 5 to 9", otherwise 0.
--- Differs: the form is a parameter. proofs/FirstNo shows that reading refuses exactly so, and proofs/Outcomes that a
--- further question (`thenAsk`) does.
-use mathlib.Core.List.{List, [], _∷_}
+-- Differs: the form is a parameter. proofs/FirstNo shows that reading refuses exactly so, proofs/Refusals that it gives
+-- no other number, and proofs/Outcomes both of a further question (`thenAsk`).
+use mathlib.Core.List.{List, [], _∷_, _++_}
 use mathlib.Core.Path.{_≡_}
-use Prim.Native.Nat.{ℕ, zero, suc, _<_, _≤_}
+use Prim.Native.Nat.{ℕ, zero, suc, _<_}
 use lib.ListN.{drop}
 use Rattle.trace.specs.declared.Operation.{Operation}
 use Rattle.trace.specs.Form.{Form, base, recordSize, start}
@@ -34,12 +34,6 @@ pub data RefusedFirst (f : Form) (bytes : List ℕ) (q k : ℕ) : Type 0 where
 unfoldable pub FileRefusedFirst : List ℕ → ℕ → ℕ → Type 0
 FileRefusedFirst bytes q k = RefusedFirst base bytes q k
 
--- the refusals that a file of n operations can get: by questions 1 to 4 with place 0, or by 5 to 9 with the number of
--- an operation
-pub data Refusal (n q k : ℕ) : Type 0 where
-  one-to-four : 1 ≤ q → q ≤ 4 → k ≡ 0 → Refusal n q k
-  five-to-nine : 5 ≤ q → q ≤ 9 → k < n → Refusal n q k
-
 -- the place of a refusal is "otherwise 0"
 abbrev pub noPlace : Trace → ℕ
 noPlace t = 0
@@ -50,3 +44,20 @@ pub data RefusedNext (Before : ℕ → ℕ → Type 0) (Passed : Trace → Type 
     (place : Trace → ℕ) (q k : ℕ) : Type 0 where
   by-earlier : Before q k → RefusedNext Before Passed number No place q k
   by-this : (t : Trace) → Passed t → No t → q ≡ number → k ≡ place t → RefusedNext Before Passed number No place q k
+
+-- ---- the numbers of refusals
+
+-- of the questions that reading a file asks: of its header, and of each record
+abbrev pub headerNumbers : List ℕ
+headerNumbers = 1 ∷ 2 ∷ 3 ∷ 4 ∷ []
+
+abbrev pub recordNumbers : List ℕ
+recordNumbers = 5 ∷ 6 ∷ 7 ∷ 8 ∷ 9 ∷ []
+
+abbrev pub readingNumbers : List ℕ
+readingNumbers = headerNumbers ++ recordNumbers
+
+-- of all questions that a file is asked, by every call that takes one: "Every call that takes a file asks 1 to 10 of it
+-- itself." A call's further numbers stand behind them: those of the order table are `fileNumbers ++ 11 ∷ []`.
+abbrev pub fileNumbers : List ℕ
+fileNumbers = readingNumbers ++ 10 ∷ []

@@ -31,20 +31,25 @@ header t = record { worker = t .workers; kind = 0; number = size t; length = 0 }
 unfoldable pub bytesOf : Form → Trace → List ℕ
 bytesOf f t = recordBytes f 0 (header t) ++ recordsBytes f [] (t .operations)
 
--- what questions 6 to 9 want of an operation, in a trace of p workers
+-- what the questions want of an operation, in a trace of p workers
 pub record Admitted (p : ℕ) (o : Operation) : Type 0 where
   pub worker : o .worker < p
   pub kind : (1 ≤ o .kind) × (o .kind ≤ 4)
   pub event : T (isSync (o .kind)) → (o .number ≤ 255) × (o .length ≡ 0)
   pub cells : T (isAccess (o .kind)) → (1 ≤ o .length) × (o .number + o .length ≤ 4294967296)
 
--- a trace that the questions let pass, and whose lengths have two bytes
+-- its number has four bytes, and its length two
+pub record Fits (o : Operation) : Type 0 where
+  pub number : o .number < 4294967296
+  pub length : o .length < 65536
+
+-- a trace that the questions let pass, and whose operations fit their records
 pub record WellFormed (t : Trace) : Type 0 where
   pub some : 1 ≤ t .workers
   pub most : t .workers ≤ 16
   pub few : size t ≤ 1024
   pub each : (k : ℕ) → k < size t → Admitted (t .workers) (operation t k)
-  pub short : (k : ℕ) → k < size t → operation t k .length < 65536
+  pub fits : (k : ℕ) → k < size t → Fits (operation t k)
 
 -- a file: every element is a byte
 pub record Bytes (bytes : List ℕ) : Type 0 where

@@ -1,7 +1,6 @@
-// The trace file: its mark, its record size, and the operations of a file that questions 1 to 9 do not refuse.
+// The trace file: its mark, its record size, and the operations of a file that reads as a trace.
 // The functions with a `requires` are for the crates above: the reader, which asks those questions, and the crates that
 // have had a file read before.
-ghost use mathlib.Core.Bool.{_&&_, _||_};
 ghost use mathlib.Core.Path.{_≡_};
 ghost use Prim.Native.Nat.{_+_, _≤_, _<_};
 ghost use lib.ListN.{length, drop};
@@ -25,20 +24,13 @@ pub struct Operation {
     pub length: u16,
 }
 
-// A byte as a 32-bit number.
-fn wide(x: u8) -> u32
-    ensures { λ r. ⌜ (r ≡ x) × (r < 256) ⌝ }
-{
-    x as u32
-}
-
 // The two bytes at a place, as a number.
 fn number16(file: &[u8], at: usize) -> u32
     requires { ⌜ at + 2 ≤ length (now file) ⌝ }
     ensures { λ r. ⌜ (r ≡ value 2 (drop at (now (file .entry)))) × (r < 65536) ⌝ }
 {
-    let low = wide(file[at]);
-    let high = wide(file[at + 1]);
+    let low = basics::wide_byte(file[at]);
+    let high = basics::wide_byte(file[at + 1]);
     low + 256 * high
 }
 
@@ -73,20 +65,6 @@ pub fn record_start(k: usize) -> usize
     ensures { λ r. ⌜ r ≡ start base k ⌝ }
 {
     RECORD_SIZE + RECORD_SIZE * k
-}
-
-// Do both hold? With both worked out before, no branch hangs on the one or the other.
-pub fn both(x: bool, y: bool) -> bool
-    ensures { λ r. ⌜ r ≡ x && y ⌝ }
-{
-    x && y
-}
-
-// Does one of them hold?
-pub fn either(x: bool, y: bool) -> bool
-    ensures { λ r. ⌜ r ≡ x || y ⌝ }
-{
-    x || y
 }
 
 // Post or Wait?

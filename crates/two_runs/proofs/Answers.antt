@@ -9,7 +9,7 @@ use lib.IntN.{ℤ, pos, negsuc}
 use lib.ListN.{length}
 use mir.Syntax.{w8}
 use mir.Val.{ofZ}
-use Rattle.runs.proofs.Booleans.{zero-one}
+use Rattle.basics.proofs.Booleans.{zero-one}
 use Rattle.trace.specs.Premises.{HoldsTrace}
 use Rattle.trace.specs.Reading.{Reading, refused, traceOf}
 use Rattle.trace.specs.Refusals.{by-earlier, by-this}

@@ -1,5 +1,5 @@
--- Questions: questions 1 to 10 and 12 to 15. Answers: what the call answers and leaves in the two buffers. Buffers: what
--- is in them then.
+-- Questions: the file's questions and 12 to 15. Answers: what the call answers and leaves in the two buffers. Buffers:
+-- what is in them then.
 pub mod Questions
 pub mod Answers
 pub mod Buffers

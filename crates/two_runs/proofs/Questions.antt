@@ -1,13 +1,13 @@
--- Questions 1 to 10 and 12 to 15 of a file, two numbers and two buffers. In order: when none refuses, and when one
+-- The file's questions, and 12 to 15 of two numbers and two buffers. In order: when none refuses, and when one
 -- does; which refusals there are.
-use mathlib.Core.List.{List}
-use mathlib.Core.Logic.{_⊎_, inl, inr}
-use native.Mathlib.Omega.{arith}
+use mathlib.Core.List.{List, [], _∷_, _++_}
+use mathlib.Core.Logic.{_⊎_}
 use Prim.Native.Nat.{ℕ, _<_, _≤_}
+use Rattle.basics.specs.Membership.{_∈_}
 use Rattle.trace.specs.Reading.{thenAsk}
-use Rattle.trace.specs.Refusals.{noPlace, by-earlier, by-this}
+use Rattle.trace.specs.Refusals.{noPlace, fileNumbers}
 use Rattle.trace.specs.Trace.{size}
-use Rattle.trace.proofs.Outcomes.{ComesOut, Meaning, asks-at-most, asks-both, ask-next, pass-as}
+use Rattle.trace.proofs.Outcomes.{ComesOut, Meaning, asks-at-most, asks-both, ask-next, pass-as, next-number}
 use Rattle.model.specs.Orders.{MustPrecedeIn, Unordered}
 use Rattle.model.proofs.SharedOrder.{unordered-test, ordered-test}
 use Rattle.accept.proofs.Questions.{accepted-workers}
@@ -50,10 +50,8 @@ module _ (bytes : List ℕ) (a b : ℕ) where
 -- ---- which refusals there are
 
 pub refused-runs-number : {bytes : List ℕ} {a b x y q k : ℕ} → RefusedRuns bytes a b x y q k
-    → ((1 ≤ q) × (q ≤ 10)) ⊎ ((12 ≤ q) × (q ≤ 15))
-refused-runs-number (by-earlier (by-earlier r)) = elim (refused-pair-number r) [
-  | inl n ↦ inl n
-  | inr n ↦ inr (n .0, omega (arith, n .1))
-]
-refused-runs-number (by-earlier (by-this t h l n z)) = inr (omega arith, omega arith)
-refused-runs-number (by-this t h l n z) = inr (omega arith, omega arith)
+    → q ∈ fileNumbers ++ 12 ∷ 13 ∷ 14 ∷ 15 ∷ []
+refused-runs-number r =
+    next-number (fileNumbers ++ 12 ∷ 13 ∷ 14 ∷ [])
+    (next-number (fileNumbers ++ 12 ∷ 13 ∷ []) refused-pair-number)
+    r

@@ -1,4 +1,4 @@
--- Which refusal a file, two numbers and two buffers get by questions 1 to 10 and 12 to 15.
+-- Which refusal a file, two numbers and two buffers get by the file's questions and 12 to 15.
 -- Follows: document 01, "The questions": "the two runs [ask] 12 to 15"; their place is 0.
 -- Differs: nowhere. `RefusedPair`, for the questions up to 13, is in the crate `pair_order`, and `RefusedNext`, for a
 -- further question, in `trace`. proofs/Questions shows that the call refuses exactly so.

@@ -25,7 +25,7 @@ areUnordered a b t = unorderedIn t a b
 abbrev pub eachHolds : ℕ → ℕ → Trace → Bool
 eachHolds x y t = leb (size t) x && leb (size t) y
 
--- questions 1 to 10 and 12 to 15: the refusal by the first "no", or the trace
+-- the file's questions and 12 to 15: the refusal by the first "no", or the trace
 unfoldable pub runsReading : List ℕ → ℕ → ℕ → ℕ → ℕ → Reading
 runsReading bytes a b x y =
     thenAsk 15 (eachHolds x y) noPlace (thenAsk 14 (areUnordered a b) noPlace (pairReading bytes a b))

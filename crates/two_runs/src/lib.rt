@@ -112,7 +112,8 @@ fn runs_if_unordered(
     }
 }
 
-// Questions 1 to 10 and 12 to 15 of any bytes, any two numbers and any buffers; where none refuses, the two runs.
+// Asks the file's questions and 12 to 15, of any bytes, any two numbers and any buffers; where none refuses, the two
+// runs.
 pub fn two_runs(file: &[u8], a: u32, b: u32, first: &mut [u16], second: &mut [u16]) -> RunsAnswer
     ensures { λ r. ⌜ RunsCall (now (file .entry)) a b (now (first .entry)) (now (second .entry)) r
         (now (first .exit)) (now (second .exit)) ⌝ }

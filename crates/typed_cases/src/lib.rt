@@ -384,13 +384,9 @@ fn canonical_line(seen: &mut [u64; 3], file: &[u8], output: &mut [u8], row: [u32
     typed(seen, answer, verdict(row[1], row[2], row[3], 0, 0));
 }
 
-fn wide(x: u16) -> u32 {
-    x as u32
-}
-
 fn number_at(list: &[u16], i: usize) -> u32 {
     if i < list.len() {
-        return wide(list[i]);
+        return basics::wide(list[i]);
     }
     65536
 }

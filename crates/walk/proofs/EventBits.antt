@@ -13,7 +13,7 @@ use lib.ListN.{length, getD, set, replicate, length-set, length-replicate, getD-
 use lib.Pow.{pow-lt, pow-add, pow-pos}
 use lib.Seq.{getD-set-same, getD-set-other, set-getD}
 use borrow.Author.Tests.{eq-eqb, ne-eqb}
-use Rattle.runs.proofs.Booleans.{equal?, less?, test-true, zero-one}
+use Rattle.basics.proofs.Booleans.{equal?, less?, test-true, zero-one}
 use Rattle.trace.specs.declared.Operation.{Operation}
 use Rattle.trace.specs.Premises.{HoldsTrace}
 use Rattle.trace.specs.Reading.{traceOf}
@@ -171,7 +171,7 @@ sync-below {t} f {k} l {o} e h = omega (arith, admitted .event (test-true _ .0 h
     admitted : Admitted (t .workers) o
     admitted = rw e (f .each k l)
 
--- a file that questions 1 to 9 let pass fits
+-- a file that reads as a trace fits
 pub trace-fits : {bytes : List ℕ} {p n : ℕ} → HoldsTrace bytes p n → Fits (traceOf bytes)
 trace-fits h =
     record {

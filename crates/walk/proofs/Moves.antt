@@ -9,7 +9,7 @@ use Prim.Native.Nat.{ℕ, zero, suc, _+_, _<_, _≤_}
 use lib.Dec.{ltb}
 use lib.ListN.{take}
 use borrow.Author.Tests.{lt-ltb, le-ltb, ltb-true}
-use Rattle.runs.proofs.Booleans.{equal?, less?, zero-one}
+use Rattle.basics.proofs.Booleans.{equal?, less?, zero-one}
 use Rattle.trace.specs.Trace.{Trace, size}
 use Rattle.walk.specs.declared.Walk.{Walk}
 use Rattle.walk.specs.Walks.{nextOf, mayRun, moveFrom, move, added, walkFrom, runFrom}

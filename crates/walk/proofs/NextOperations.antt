@@ -6,9 +6,9 @@ use mathlib.Core.Path.{_≡_, refl, sym, _∙_}
 use native.Mathlib.Omega.{arith}
 use Prim.Native.Nat.{ℕ, _+_, _<_, _≤_}
 use lib.ListN.{getD, List·getD-eq-default}
-use Rattle.runs.specs.Membership.{upTo}
+use Rattle.basics.specs.Membership.{upTo}
+use Rattle.basics.proofs.Booleans.{less?}
 use Rattle.runs.specs.Workers.{count, earlier, operationsOf}
-use Rattle.runs.proofs.Booleans.{less?}
 use Rattle.runs.proofs.Counts.{earlier-less, nth}
 use Rattle.runs.proofs.Places.{operationsOf-length, count-few, operationsOf-at}
 use Rattle.trace.specs.Reading.{traceOf}

@@ -10,7 +10,7 @@ use lib.Dec.{eqb, ltb}
 use lib.ListN.{getD, set, replicate, length-set}
 use lib.Seq.{getD-set-same, getD-set-other}
 use borrow.Author.Tests.{ne-eqb, not-true}
-use Rattle.runs.proofs.Booleans.{equal?, zero-one}
+use Rattle.basics.proofs.Booleans.{equal?, zero-one}
 use Rattle.trace.specs.Trace.{Trace, size, operation, workerOf, isWait}
 use Rattle.walk.specs.declared.Walk.{Walk}
 use Rattle.walk.specs.Events.{isPosted}

@@ -10,7 +10,7 @@ use Prim.Native.Nat.{ℕ, _+_, _%_, _<_, _≤_, max}
 use lib.Dec.{eqb, ltb}
 use lib.ListN.{getD}
 use borrow.Author.Tests.{eqb-true, eq-eqb, lt-ltb, le-ltb}
-use Rattle.runs.proofs.Booleans.{equal?, zero-one}
+use Rattle.basics.proofs.Booleans.{equal?, zero-one}
 use Rattle.trace.specs.declared.Operation.{Operation}
 use Rattle.trace.specs.Trace.{Trace, size, operation, isPost, isWait, isSync}
 use Rattle.walk.specs.Events.{isPosted, withPost}

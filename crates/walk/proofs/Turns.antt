@@ -11,7 +11,7 @@ use lib.Dec.{eqb, leb}
 use lib.ListN.{length, getD, set, take, drop, length-set, length-drop}
 use lib.Seq.{getD-set-same, getD-set-other, set-set, set-getD, take-suc, getD-drop}
 use borrow.Author.Tests.{eqb-true, lt-ltb, le-ltb, lt-leb, le-leb}
-use Rattle.runs.proofs.Booleans.{equal?, less?, zero-one}
+use Rattle.basics.proofs.Booleans.{equal?, less?, zero-one}
 use Rattle.trace.specs.Reading.{traceOf}
 use Rattle.trace.specs.Trace.{Trace, size, operation, workerOf, isPost, isWait}
 use Rattle.index.proofs.Lookups.{part-start, places-inside, place-operation, part-rth}

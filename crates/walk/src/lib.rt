@@ -44,13 +44,6 @@ fn post(events: &mut [u64; 4], e: u32)
     events[word] = events[word] | (1u64 << (e % 64));
 }
 
-// A 16-bit number as an index.
-fn wide(x: u16) -> usize
-    ensures { λ r. ⌜ (r ≡ x) × (r < 65536) ⌝ }
-{
-    x as usize
-}
-
 // Worker q's next operation; n where it has none left.
 pub fn next_operation(
     file: &[u8],
@@ -64,9 +57,9 @@ pub fn next_operation(
     requires { ⌜ Walkable (now file) p n (now order) (now starts) × (q < p) ⌝ }
     ensures { λ r. ⌜ r ≡ nextOf (traceOf (now (file .entry))) w q ⌝ }
 {
-    let at = wide(starts[q]) + wide(w.done[q]);
-    if at < wide(starts[q + 1]) {
-        return wide(order[at]);
+    let at = basics::index(starts[q]) + basics::index(w.done[q]);
+    if at < basics::index(starts[q + 1]) {
+        return basics::index(order[at]);
     }
     n
 }
@@ -79,9 +72,9 @@ fn passes_on(file: &[u8], left_out: usize, events: &[u64; 4], k: usize) -> bool
 {
     let o = trace::operation_of(file, k);
     let posted = is_posted(events, o.number % 256);
-    trace::both(
+    basics::both(
         k != left_out,
-        trace::either(!trace::is_sync(o.kind), posted),
+        basics::either(!trace::is_sync(o.kind), posted),
     )
 }
 
@@ -100,7 +93,7 @@ fn stop_of(
 {
     let mut at = from;
     while at < end {
-        if !passes_on(file, left_out, events, wide(order[at])) {
+        if !passes_on(file, left_out, events, basics::index(order[at])) {
             return at;
         }
         at += 1;
@@ -114,7 +107,7 @@ pub fn next_place(starts: &[u16; 17], done: &[u16; 16], q: usize) -> usize
     ensures { λ r. ⌜ (r ≡ getD (now (starts .entry)) q 0 + getD (now (done .entry)) q 0)
         × (getD (now (done .entry)) q 0 < 65536) ⌝ }
 {
-    wide(starts[q]) + wide(done[q])
+    basics::index(starts[q]) + basics::index(done[q])
 }
 
 // The end of at most `left` places from `from` on, in worker q's part.
@@ -122,7 +115,7 @@ fn limit(starts: &[u16; 17], q: usize, from: usize, left: usize) -> usize
     requires { ⌜ q < 16 ⌝ }
     ensures { λ r. ⌜ r ≡ min (getD (now (starts .entry)) (q + 1) 0) (from + left) ⌝ }
 {
-    let end = wide(starts[q + 1]);
+    let end = basics::index(starts[q + 1]);
     if end <= from {
         return end;
     }
@@ -140,7 +133,7 @@ fn posts_at(file: &[u8], order: &[u16; 1024], left_out: usize, end: usize, at: u
     if end <= at {
         return false;
     }
-    let k = wide(order[at]);
+    let k = basics::index(order[at]);
     if k == left_out {
         return false;
     }
@@ -154,7 +147,7 @@ fn post_at(file: &[u8], order: &[u16; 1024], at: usize, events: &mut [u64; 4])
     ensures { λ r. ⌜ now (events .exit) ≡ withPost (now (events .entry))
         (operation (traceOf (now (file .entry))) (getD (now (order .entry)) at 0) .number) ⌝ }
 {
-    let o = trace::operation_of(file, wide(order[at]));
+    let o = trace::operation_of(file, basics::index(order[at]));
     post(events, o.number);
 }
 
@@ -163,7 +156,7 @@ fn advance(done: &mut [u16; 16], q: usize, more: usize)
     requires { ⌜ (q < 16) × (getD (now done) q 0 + more < 65536) ⌝ }
     ensures { λ r. ⌜ now (done .exit) ≡ set (now (done .entry)) q (getD (now (done .entry)) q 0 + more) ⌝ }
 {
-    done[q] = (wide(done[q]) + more) as u16;
+    done[q] = (basics::index(done[q]) + more) as u16;
 }
 
 // Adds operation k to the state: its worker has done one more, and a Post sets its event. Is it a Post?
@@ -190,7 +183,7 @@ fn is_held(note: u16, events: &[u64; 4]) -> bool
     ensures { λ r. ⌜ r ≡ held note (now (events .entry)) ⌝ }
 {
     let posted = is_posted(events, ((note as u32) + 255) % 256);
-    trace::both(note != 0, trace::either(note == 257, !posted))
+    basics::both(note != 0, basics::either(note == 257, !posted))
 }
 
 // The first worker from `from` on that its note does not hold; p where there is none.
@@ -223,7 +216,7 @@ fn note_at(
         (getD (now (starts .entry)) (q + 1) 0) «end» at ⌝ }
 {
     if at < end {
-        let k = wide(order[at]);
+        let k = basics::index(order[at]);
         if k == left_out {
             return 257;
         }
@@ -233,7 +226,7 @@ fn note_at(
         }
         return 0;
     }
-    if wide(starts[q + 1]) <= at {
+    if basics::index(starts[q + 1]) <= at {
         return 257;
     }
     0
@@ -303,9 +296,9 @@ pub fn walk_on(
     let mut left = n;
     let mut q = next_free(p, notes, events, 0);
     while q < p {
-        let before = wide(done[q]);
+        let before = basics::index(done[q]);
         let next = turn(file, order, starts, left_out, left, q, notes, done, events);
-        left -= wide(done[q]) - before;
+        left -= basics::index(done[q]) - before;
         q = next_free(p, notes, events, next);
     }
 }

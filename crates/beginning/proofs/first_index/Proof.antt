@@ -30,7 +30,7 @@ wide-requires c κs = search needs
 returns : tie.Need-returns Inv-loop μ-loop
 returns c =
     let c4 = c .before .before .before .before in
-    searched-found (c4 .loop .inv) (omega arith) (sym (c .before .wide .ensures) ∙ c .if1 .taken)
+    searched-found (c4 .loop .inv) (omega arith) (sym (c .before .wide .ensures .0) ∙ c .if1 .taken)
 
 add-i : tie.Need-add-i Inv-loop μ-loop
 add-i c = search needs
@@ -41,7 +41,7 @@ loop-less c = search needs
 loop-again : tie.Need-loop-again Inv-loop μ-loop
 loop-again c =
     let c4 = c .before .before .before .before in
-    searched-more (c4 .loop .inv) (omega arith) (λ e. c .if1 .left (c .before .wide .ensures ∙ e))
+    searched-more (c4 .loop .inv) (omega arith) (λ e. c .if1 .left (c .before .wide .ensures .0 ∙ e))
 
 returns-2 : tie.Need-returns-2 Inv-loop μ-loop
 returns-2 c = searched-all (c .before .loop .inv) (c .loop-test .left)

@@ -25,13 +25,13 @@ worker-count-requires c κs =
 cast-p : tie.Need-cast-p Inv-loop μ-loop
 cast-p c = search needs
 
-element-copy-out-wide : tie.Need-element-copy-out-wide Inv-loop μ-loop
-element-copy-out-wide c =
+element-copy-out-byte-index : tie.Need-element-copy-out-byte-index Inv-loop μ-loop
+element-copy-out-byte-index c =
     let c3 = c .before .before .before in
     omega (arith, table-short (c3 .pre .0 .holds), c3 .pre .0 .inside)
 
-wide-requires : tie.Need-wide-requires Inv-loop μ-loop
-wide-requires c κs = search needs
+byte-index-requires : tie.Need-byte-index-requires Inv-loop μ-loop
+byte-index-requires c κs = search needs
 
 mul-own-a : tie.Need-mul-own-a Inv-loop μ-loop
 mul-own-a c =
@@ -61,16 +61,16 @@ element-copy-out-x c =
 index-requires : tie.Need-index-requires Inv-loop μ-loop
 index-requires c κs = search needs
 
-element-copy-out-wide-2 : tie.Need-element-copy-out-wide-2 Inv-loop μ-loop
-element-copy-out-wide-2 c =
+element-copy-out-byte-index-2 : tie.Need-element-copy-out-byte-index-2 Inv-loop μ-loop
+element-copy-out-byte-index-2 c =
     let c2 = c .before .before in
     let c3 = c2 .before in
     let c10 = c3 .before .before .before .before .before .before .before in
     let low = kept-conflict (c3 .loop .inv) (c2 .loop-test .taken) (c .index .ensures .0) .below in
     omega (arith, low, table-short (c10 .pre .0 .holds))
 
-wide-requires-2 : tie.Need-wide-requires-2 Inv-loop μ-loop
-wide-requires-2 c κs = search needs
+byte-index-requires-2 : tie.Need-byte-index-requires-2 Inv-loop μ-loop
+byte-index-requires-2 c κs = search needs
 
 mul-unordered-bit : tie.Need-mul-unordered-bit Inv-loop μ-loop
 mul-unordered-bit c =
@@ -100,8 +100,8 @@ unordered-bit-requires c κs =
     let c10 = c8 .before .before in
     let c13 = c10 .before .before .before in
     let here = kept-conflict (c6 .loop .inv) (c5 .loop-test .taken) (c3 .index .ensures .0) in
-    row-inside (c13 .pre .0) (here .after) (here .below) (c10 .worker-count .ensures) (c8 .wide .ensures .0)
-    (c1 .wide2 .ensures .0)
+    row-inside (c13 .pre .0) (here .after) (here .below) (c10 .worker-count .ensures) (c8 .byte-index .ensures .0)
+    (c1 .byte-index2 .ensures .0)
 
 mul-row : tie.Need-mul-row Inv-loop μ-loop
 mul-row c =
@@ -117,15 +117,15 @@ element-write-row c =
     let c14 = c7 .before .before .before .before .before .before .before in
     omega (arith, c6 .loop-test .taken, c7 .loop .inv .few, c14 .pre .1 .few)
 
-wide32-requires : tie.Need-wide32-requires Inv-loop μ-loop
-wide32-requires c κs = search needs
+wide-index-requires : tie.Need-wide-index-requires Inv-loop μ-loop
+wide-index-requires c κs = search needs
 
 add-kept : tie.Need-add-kept Inv-loop μ-loop
 add-kept c =
     let c7 = c .before .before .before .before .before .before .before in
     let c8 = c7 .before in
     let c15 = c8 .before .before .before .before .before .before .before in
-    omega (arith, c7 .loop-test .taken, c8 .loop .inv .few, c15 .pre .1 .few, c .wide32 .ensures .1)
+    omega (arith, c7 .loop-test .taken, c8 .loop .inv .few, c15 .pre .1 .few, c .wide-index .ensures .1)
 
 add-i : tie.Need-add-i Inv-loop μ-loop
 add-i c = search needs
@@ -147,9 +147,9 @@ loop-again c =
     let e = c5 .index .ensures .0 in
     let here = kept-conflict (c8 .loop .inv) taken e in
     let free =
-    row-free (c15 .pre .0) (here .after) (here .below) (c12 .worker-count .ensures) (c10 .wide .ensures .0)
-    (c3 .wide2 .ensures .0) (here .conflict) (c1 .unordered-bit .ensures) in
-    kept-more (c8 .loop .inv) taken e (c .wide32 .ensures .0 ∙ free)
+    row-free (c15 .pre .0) (here .after) (here .below) (c12 .worker-count .ensures) (c10 .byte-index .ensures .0)
+    (c3 .byte-index2 .ensures .0) (here .conflict) (c1 .unordered-bit .ensures) in
+    kept-more (c8 .loop .inv) taken e (c .wide-index .ensures .0 ∙ free)
 
 returns : tie.Need-returns Inv-loop μ-loop
 returns c = kept-end (c .before .loop .inv) (c .loop-test .left)
@@ -162,22 +162,22 @@ keep-unordered-spec =
     μ-loop
     worker-count-requires
     cast-p
-    element-copy-out-wide
-    wide-requires
+    element-copy-out-byte-index
+    byte-index-requires
     mul-own-a
     element-copy-out-own-a
     loop-holds
     mul-x
     element-copy-out-x
     index-requires
-    element-copy-out-wide-2
-    wide-requires-2
+    element-copy-out-byte-index-2
+    byte-index-requires-2
     mul-unordered-bit
     element-copy-out-unordered-bit
     unordered-bit-requires
     mul-row
     element-write-row
-    wide32-requires
+    wide-index-requires
     add-kept
     add-i
     loop-less

@@ -2,7 +2,7 @@
 use mathlib.Core.Path.{sym, _∙_}
 use native.Mathlib.Omega.{arith}
 use borrow.Author.Needs.{needs}
-use Rattle.runs.proofs.Booleans.{test-true}
+use Rattle.basics.proofs.Booleans.{test-true}
 use Rattle.race_rows.specs.Rows.{lastCell}
 use Rattle.race_rows.proofs.last_cell.Statement.{statement}
 use Rattle.race_rows.proofs.last_cell.Tie as tie

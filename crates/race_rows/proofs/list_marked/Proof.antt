@@ -54,20 +54,20 @@ element-write-row c =
     let c4 = c2 .before .before in
     omega (arith, file-few _ (c4 .pre .trace), c2 .operation-count .ensures, c .loop-test .taken, c1 .loop .inv .few)
 
-mul-wide32 : tie.Need-mul-wide32 Inv-loop μ-loop
-mul-wide32 c =
+mul-wide-index : tie.Need-mul-wide-index Inv-loop μ-loop
+mul-wide-index c =
     let c2 = c .before .before in
     let c4 = c2 .before .before in
     omega (arith, file-few _ (c4 .pre .trace), c2 .operation-count .ensures, c .loop-test .taken)
 
-element-copy-out-wide32 : tie.Need-element-copy-out-wide32 Inv-loop μ-loop
-element-copy-out-wide32 c =
+element-copy-out-wide-index : tie.Need-element-copy-out-wide-index Inv-loop μ-loop
+element-copy-out-wide-index c =
     let c2 = c .before .before in
     let c4 = c2 .before .before in
     omega (arith, file-few _ (c4 .pre .trace), c2 .operation-count .ensures, c .loop-test .taken)
 
-wide32-requires : tie.Need-wide32-requires Inv-loop μ-loop
-wide32-requires c κs = search needs
+wide-index-requires : tie.Need-wide-index-requires Inv-loop μ-loop
+wide-index-requires c κs = search needs
 
 add-count : tie.Need-add-count Inv-loop μ-loop
 add-count c =
@@ -81,7 +81,7 @@ add-count c =
       c4 .operation-count .ensures,
       c2 .loop-test .taken,
       c3 .loop .inv .few,
-      c .wide32 .ensures .1,
+      c .wide-index .ensures .1,
     )
 
 add-b-2 : tie.Need-add-b-2 Inv-loop μ-loop
@@ -101,7 +101,7 @@ loop-again c =
     let ahead = c3 .loop .inv .few in
     let below = c2 .loop-test .taken in
     list-more _ (c3 .loop .inv) (file-few _ (pre .trace)) (omega (arith, size, below))
-    (c .wide32 .ensures .0 ∙ conflict-mark _ (omega (arith, ahead))
+    (c .wide-index .ensures .0 ∙ conflict-mark _ (omega (arith, ahead))
     (pre .conflicts .marked _ (omega (arith, ahead)) (omega (arith, size, below))))
 
 returns : tie.Need-returns Inv-loop μ-loop
@@ -125,9 +125,9 @@ list-marked-spec =
     cast-row
     mul-row
     element-write-row
-    mul-wide32
-    element-copy-out-wide32
-    wide32-requires
+    mul-wide-index
+    element-copy-out-wide-index
+    wide-index-requires
     add-count
     add-b-2
     loop-less

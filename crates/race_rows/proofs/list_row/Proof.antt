@@ -48,8 +48,8 @@ operation-count-requires c κs = search needs
 cast-n : tie.Need-cast-n
 cast-n c = search needs
 
-wide32-requires : tie.Need-wide32-requires
-wide32-requires c κs = search needs
+wide-index-requires : tie.Need-wide-index-requires
+wide-index-requires c κs = search needs
 
 mul-if3 : tie.Need-mul-if3
 mul-if3 c = search needs
@@ -88,7 +88,7 @@ list-row-spec =
     returns-2
     operation-count-requires
     cast-n
-    wide32-requires
+    wide-index-requires
     mul-if3
     sub-if3
     mul-if3-2

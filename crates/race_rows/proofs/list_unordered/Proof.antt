@@ -36,13 +36,13 @@ operation-count-requires c κs =
 cast-n : tie.Need-cast-n Inv-loop μ-loop
 cast-n c = search needs
 
-element-copy-out-wide : tie.Need-element-copy-out-wide Inv-loop μ-loop
-element-copy-out-wide c =
+element-copy-out-byte-index : tie.Need-element-copy-out-byte-index Inv-loop μ-loop
+element-copy-out-byte-index c =
     let c4 = c .before .before .before .before in
     omega (arith, table-short (c4 .pre .0 .holds), c4 .pre .0 .inside)
 
-wide-requires : tie.Need-wide-requires Inv-loop μ-loop
-wide-requires c κs = search needs
+byte-index-requires : tie.Need-byte-index-requires Inv-loop μ-loop
+byte-index-requires c κs = search needs
 
 mul-own-a : tie.Need-mul-own-a Inv-loop μ-loop
 mul-own-a c =
@@ -65,14 +65,14 @@ loop-holds c =
     let pre = c7 .pre in
     list-start _ (pre .1 .row-long) (pre .1 .inside) (λ k l. no-race-ahead _ _ k l)
 
-element-copy-out-wide-2 : tie.Need-element-copy-out-wide-2 Inv-loop μ-loop
-element-copy-out-wide-2 c =
+element-copy-out-byte-index-2 : tie.Need-element-copy-out-byte-index-2 Inv-loop μ-loop
+element-copy-out-byte-index-2 c =
     let c5 = c .before .before .before .before .before in
     let c9 = c5 .before .before .before .before in
     omega (arith, table-short (c9 .pre .0 .holds), c5 .operation-count .ensures, c .loop-test .taken)
 
-wide-requires-2 : tie.Need-wide-requires-2 Inv-loop μ-loop
-wide-requires-2 c κs = search needs
+byte-index-requires-2 : tie.Need-byte-index-requires-2 Inv-loop μ-loop
+byte-index-requires-2 c κs = search needs
 
 mul-unordered-bit : tie.Need-mul-unordered-bit Inv-loop μ-loop
 mul-unordered-bit c =
@@ -99,7 +99,7 @@ unordered-bit-requires c κs =
     let c12 = c9 .before .before .before in
     row-inside (c12 .pre .0) (omega (arith, c4 .loop .inv .few))
     (omega (arith, c8 .operation-count .ensures, c3 .loop-test .taken)) (c9 .worker-count .ensures)
-    (c6 .wide .ensures .0) (c1 .wide2 .ensures .0)
+    (c6 .byte-index .ensures .0) (c1 .byte-index2 .ensures .0)
 
 cast-row : tie.Need-cast-row Inv-loop μ-loop
 cast-row c =
@@ -126,22 +126,22 @@ element-write-row c =
     omega
     (arith, table-short (c13 .pre .0 .holds), c9 .operation-count .ensures, c4 .loop-test .taken, c5 .loop .inv .few)
 
-mul-wide32 : tie.Need-mul-wide32 Inv-loop μ-loop
-mul-wide32 c =
+mul-wide-index : tie.Need-mul-wide-index Inv-loop μ-loop
+mul-wide-index c =
     let c4 = c .before .before .before .before in
     let c9 = c4 .before .before .before .before .before in
     let c13 = c9 .before .before .before .before in
     omega (arith, table-short (c13 .pre .0 .holds), c9 .operation-count .ensures, c4 .loop-test .taken)
 
-element-copy-out-wide32 : tie.Need-element-copy-out-wide32 Inv-loop μ-loop
-element-copy-out-wide32 c =
+element-copy-out-wide-index : tie.Need-element-copy-out-wide-index Inv-loop μ-loop
+element-copy-out-wide-index c =
     let c4 = c .before .before .before .before in
     let c9 = c4 .before .before .before .before .before in
     let c13 = c9 .before .before .before .before in
     omega (arith, table-short (c13 .pre .0 .holds), c9 .operation-count .ensures, c4 .loop-test .taken)
 
-wide32-requires : tie.Need-wide32-requires Inv-loop μ-loop
-wide32-requires c κs = search needs
+wide-index-requires : tie.Need-wide-index-requires Inv-loop μ-loop
+wide-index-requires c κs = search needs
 
 add-count : tie.Need-add-count Inv-loop μ-loop
 add-count c =
@@ -155,7 +155,7 @@ add-count c =
       c11 .operation-count .ensures,
       c6 .loop-test .taken,
       c7 .loop .inv .few,
-      c .wide32 .ensures .1,
+      c .wide-index .ensures .1,
     )
 
 add-b-2 : tie.Need-add-b-2 Inv-loop μ-loop
@@ -179,8 +179,8 @@ loop-again c =
     let ahead = c7 .loop .inv .few in
     let below = c6 .loop-test .taken in
     list-more _ (c7 .loop .inv) (table-short (row .holds)) (omega (arith, size, below))
-    (c .wide32 .ensures .0 ∙ row-race row (omega (arith, ahead)) (omega (arith, size, below))
-    (c12 .worker-count .ensures) (c9 .wide .ensures .0) (c4 .wide2 .ensures .0)
+    (c .wide-index .ensures .0 ∙ row-race row (omega (arith, ahead)) (omega (arith, size, below))
+    (c12 .worker-count .ensures) (c9 .byte-index .ensures .0) (c4 .byte-index2 .ensures .0)
     (marks .conflicts .marked _ (omega (arith, ahead)) (omega (arith, size, below))) (c2 .unordered-bit .ensures))
 
 returns : tie.Need-returns Inv-loop μ-loop
@@ -201,23 +201,23 @@ list-unordered-spec =
     cast-p
     operation-count-requires
     cast-n
-    element-copy-out-wide
-    wide-requires
+    element-copy-out-byte-index
+    byte-index-requires
     mul-own-a
     element-copy-out-own-a
     add-b
     loop-holds
-    element-copy-out-wide-2
-    wide-requires-2
+    element-copy-out-byte-index-2
+    byte-index-requires-2
     mul-unordered-bit
     element-copy-out-unordered-bit
     unordered-bit-requires
     cast-row
     mul-row
     element-write-row
-    mul-wide32
-    element-copy-out-wide32
-    wide32-requires
+    mul-wide-index
+    element-copy-out-wide-index
+    wide-index-requires
     add-count
     add-b-2
     loop-less

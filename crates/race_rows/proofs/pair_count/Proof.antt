@@ -31,19 +31,19 @@ worker-of-requires c κs =
     let c2 = c .before .before in
     omega (arith, c2 .operation-count .ensures, c .loop-test .taken)
 
-wide-requires : tie.Need-wide-requires Inv-loop μ-loop
-wide-requires c κs = search needs
+byte-index-requires : tie.Need-byte-index-requires Inv-loop μ-loop
+byte-index-requires c κs = search needs
 
 mul-same : tie.Need-mul-same Inv-loop μ-loop
-mul-same c = omega (arith, c .wide .ensures .1)
+mul-same c = omega (arith, c .byte-index .ensures .1)
 
 array-read-same : tie.Need-array-read-same Inv-loop μ-loop
-array-read-same c = omega (arith, c .wide .ensures .1)
+array-read-same c = omega (arith, c .byte-index .ensures .1)
 
 sub-count : tie.Need-sub-count Inv-loop μ-loop
 sub-count c =
     let c3 = c .before .before .before in
-    paired-seen _ (c3 .loop .inv) _ (c .wide .ensures .1)
+    paired-seen _ (c3 .loop .inv) _ (c .byte-index .ensures .1)
 
 add-count : tie.Need-add-count Inv-loop μ-loop
 add-count c =
@@ -61,17 +61,17 @@ add-seen c =
     let c6 = c4 .before .before in
     omega (
       arith,
-      paired-seen _ (c3 .loop .inv) _ (c .wide .ensures .1),
+      paired-seen _ (c3 .loop .inv) _ (c .byte-index .ensures .1),
       file-few _ (c6 .pre),
       c4 .operation-count .ensures,
       c2 .loop-test .taken,
     )
 
 mul-seen : tie.Need-mul-seen Inv-loop μ-loop
-mul-seen c = omega (arith, c .wide .ensures .1)
+mul-seen c = omega (arith, c .byte-index .ensures .1)
 
 array-write-seen : tie.Need-array-write-seen Inv-loop μ-loop
-array-write-seen c = omega (arith, c .wide .ensures .1)
+array-write-seen c = omega (arith, c .byte-index .ensures .1)
 
 add-k : tie.Need-add-k Inv-loop μ-loop
 add-k c = search needs
@@ -86,9 +86,9 @@ loop-again c =
     let c3 = c2 .before in
     let c4 = c3 .before in
     let c6 = c4 .before .before in
-    paired-more _ (c3 .loop .inv) (c .wide .ensures .1)
+    paired-more _ (c3 .loop .inv) (c .byte-index .ensures .1)
     (omega (arith, c4 .operation-count .ensures, c2 .loop-test .taken)) (file-few _ (c6 .pre))
-    (c .wide .ensures .0 ∙ c1 .worker-of .ensures)
+    (c .byte-index .ensures .0 ∙ c1 .worker-of .ensures)
 
 returns : tie.Need-returns Inv-loop μ-loop
 returns c =
@@ -106,7 +106,7 @@ pair-count-spec =
     cast-n
     loop-holds
     worker-of-requires
-    wide-requires
+    byte-index-requires
     mul-same
     array-read-same
     sub-count

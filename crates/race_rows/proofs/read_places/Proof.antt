@@ -70,20 +70,20 @@ here c =
 mul-own : tie.Need-mul-own Inv-loop μ-loop
 mul-own c = omega (arith, here c .row-few)
 
-wide-requires : tie.Need-wide-requires Inv-loop μ-loop
-wide-requires c κs = search needs
+byte-index-requires : tie.Need-byte-index-requires Inv-loop μ-loop
+byte-index-requires c κs = search needs
 
 add-own : tie.Need-add-own Inv-loop μ-loop
-add-own c = omega (arith, here (c .before) .few, c .wide .ensures)
+add-own c = omega (arith, here (c .before) .few, c .byte-index .ensures)
 
 mul-own-2 : tie.Need-mul-own-2 Inv-loop μ-loop
-mul-own-2 c = omega (arith, here (c .before) .few, c .wide .ensures)
+mul-own-2 c = omega (arith, here (c .before) .few, c .byte-index .ensures)
 
 shared-slice-read-own : tie.Need-shared-slice-read-own Inv-loop μ-loop
 shared-slice-read-own c =
     let c1 = c .before in
     let c2 = c1 .before in
-    omega (arith, here (c2) .inside, c1 .wide .ensures)
+    omega (arith, here (c2) .inside, c1 .byte-index .ensures)
 
 mul-own-3 : tie.Need-mul-own-3 Inv-loop μ-loop
 mul-own-3 c =
@@ -116,7 +116,7 @@ loop-again c =
     let c9 = c6 .before .before .before in
     places-more (c4 .loop .inv)
     (omega (arith, table-short (c9 .pre .holds), c5 .operation-count .ensures, c3 .loop-test .taken))
-    (c6 .worker-count .ensures) (c2 .worker-of .ensures) (c1 .wide .ensures .0)
+    (c6 .worker-count .ensures) (c2 .worker-of .ensures) (c1 .byte-index .ensures .0)
 
 returns : tie.Need-returns Inv-loop μ-loop
 returns c =
@@ -138,7 +138,7 @@ read-places-spec =
     worker-of-requires
     element-write-workers
     mul-own
-    wide-requires
+    byte-index-requires
     add-own
     mul-own-2
     shared-slice-read-own

@@ -19,54 +19,54 @@ abbrev μ-loop : tie.MeasureT-loop
 start-walk-requires : tie.Need-start-walk-requires Inv-loop μ-loop
 start-walk-requires c κs = search needs
 
-mul-wide : tie.Need-mul-wide Inv-loop μ-loop
-mul-wide c = search needs
+mul-index : tie.Need-mul-index Inv-loop μ-loop
+mul-index c = search needs
 
-element-copy-out-wide : tie.Need-element-copy-out-wide Inv-loop μ-loop
-element-copy-out-wide c =
+element-copy-out-index : tie.Need-element-copy-out-index Inv-loop μ-loop
+element-copy-out-index c =
     let (x, hq) = c .before .before .before .before .before .pre in
     omega (arith, hq, x .walkable .holds .most)
 
-wide-requires : tie.Need-wide-requires Inv-loop μ-loop
-wide-requires c κs = search needs
+index-requires : tie.Need-index-requires Inv-loop μ-loop
+index-requires c κs = search needs
 
-add-wide : tie.Need-add-wide Inv-loop μ-loop
-add-wide c = search needs
+add-index : tie.Need-add-index Inv-loop μ-loop
+add-index c = search needs
 
-mul-wide-2 : tie.Need-mul-wide-2 Inv-loop μ-loop
-mul-wide-2 c = search needs
+mul-index-2 : tie.Need-mul-index-2 Inv-loop μ-loop
+mul-index-2 c = search needs
 
-element-copy-out-wide-2 : tie.Need-element-copy-out-wide-2 Inv-loop μ-loop
-element-copy-out-wide-2 c =
+element-copy-out-index-2 : tie.Need-element-copy-out-index-2 Inv-loop μ-loop
+element-copy-out-index-2 c =
     let (x, hq) = c .before .before .before .before .before .before .before .pre in
     omega (arith, hq, x .walkable .holds .most)
 
-wide-requires-2 : tie.Need-wide-requires-2 Inv-loop μ-loop
-wide-requires-2 c κs = search needs
+index-requires-2 : tie.Need-index-requires-2 Inv-loop μ-loop
+index-requires-2 c κs = search needs
 
 loop-holds : tie.Need-loop-holds Inv-loop μ-loop
 loop-holds c =
     let c6 = c .before .before .before .before .before .before in
     let (x, hq) = c6 .before .before .before .pre in
-    rw (c .before .before .wide .ensures .0) (kept-start x hq (c6 .start-walk .ensures))
+    rw (c .before .before .index .ensures .0) (kept-start x hq (c6 .start-walk .ensures))
 
-mul-wide-3 : tie.Need-mul-wide-3 Inv-loop μ-loop
-mul-wide-3 c =
+mul-index-3 : tie.Need-mul-index-3 Inv-loop μ-loop
+mul-index-3 c =
     let c1 = c .before in
     let (x, hq) = c1 .before .before .before .before .before .before .before .before .before .before .pre in
-    let upper = rw (c1 .before .wide2 .ensures .0) at (c .loop-test .taken) in
+    let upper = rw (c1 .before .index2 .ensures .0) at (c .loop-test .taken) in
     let few = place-few x hq (c1 .loop .inv .lower) upper in
     record { fits = omega (arith, few) }
 
-element-copy-out-wide-3 : tie.Need-element-copy-out-wide-3 Inv-loop μ-loop
-element-copy-out-wide-3 c =
+element-copy-out-index-3 : tie.Need-element-copy-out-index-3 Inv-loop μ-loop
+element-copy-out-index-3 c =
     let c1 = c .before in
     let (x, hq) = c1 .before .before .before .before .before .before .before .before .before .before .pre in
-    let upper = rw (c1 .before .wide2 .ensures .0) at (c .loop-test .taken) in
+    let upper = rw (c1 .before .index2 .ensures .0) at (c .loop-test .taken) in
     place-few x hq (c1 .loop .inv .lower) upper
 
-wide-requires-3 : tie.Need-wide-requires-3 Inv-loop μ-loop
-wide-requires-3 c κs = search needs
+index-requires-3 : tie.Need-index-requires-3 Inv-loop μ-loop
+index-requires-3 c κs = search needs
 
 exhaust-requires : tie.Need-exhaust-requires Inv-loop μ-loop
 exhaust-requires c κs =
@@ -75,8 +75,8 @@ exhaust-requires c κs =
     let s = c3 .before .before .before .before .before .before .before .before .before .before in
     let (x, hq) = s .pre in
     let lower = c3 .loop .inv .lower in
-    let upper = rw (c3 .before .wide2 .ensures .0) at (c0 .before .before .loop-test .taken) in
-    let k = c0 .wide3 .ensures .0 in
+    let upper = rw (c3 .before .index2 .ensures .0) at (c0 .before .before .loop-test .taken) in
+    let k = c0 .index3 .ensures .0 in
     (x .walkable, rw k (c3 .loop .inv .kept upper), rw k (c3 .loop .inv .noted upper))
 
 put-row-requires : tie.Need-put-row-requires Inv-loop μ-loop
@@ -86,9 +86,9 @@ put-row-requires c κs =
     let s = c3 .before .before .before .before .before .before .before .before .before .before in
     let (x, hq) = s .pre in
     let lower = c3 .loop .inv .lower in
-    let upper = rw (c3 .before .wide2 .ensures .0) at (c0 .before .before .loop-test .taken) in
-    let e = rw (c0 .wide3 .ensures .0) at (c .before .before .exhaust .ensures .0) in
-    rw (c0 .wide3 .ensures .0) (row-room x hq lower upper e (c3 .loop .inv .same-length))
+    let upper = rw (c3 .before .index2 .ensures .0) at (c0 .before .before .loop-test .taken) in
+    let e = rw (c0 .index3 .ensures .0) at (c .before .before .exhaust .ensures .0) in
+    rw (c0 .index3 .ensures .0) (row-room x hq lower upper e (c3 .loop .inv .same-length))
 
 add-requires : tie.Need-add-requires Inv-loop μ-loop
 add-requires c κs =
@@ -97,10 +97,10 @@ add-requires c κs =
     let s = c3 .before .before .before .before .before .before .before .before .before .before in
     let (x, hq) = s .pre in
     let lower = c3 .loop .inv .lower in
-    let upper = rw (c3 .before .wide2 .ensures .0) at (c0 .before .before .loop-test .taken) in
+    let upper = rw (c3 .before .index2 .ensures .0) at (c0 .before .before .loop-test .taken) in
     let c7 = c .before .before .before .before .before .before .before in
-    let e = rw (c0 .wide3 .ensures .0) at (c7 .exhaust .ensures .0) in
-    rw (c0 .wide3 .ensures .0) (add-asks x hq lower upper e)
+    let e = rw (c0 .index3 .ensures .0) at (c7 .exhaust .ensures .0) in
+    rw (c0 .index3 .ensures .0) (add-asks x hq lower upper e)
 
 mul-notes : tie.Need-mul-notes Inv-loop μ-loop
 mul-notes c =
@@ -109,7 +109,7 @@ mul-notes c =
     let s = c3 .before .before .before .before .before .before .before .before .before .before in
     let (x, hq) = s .pre in
     let lower = c3 .loop .inv .lower in
-    let upper = rw (c3 .before .wide2 .ensures .0) at (c0 .before .before .loop-test .taken) in
+    let upper = rw (c3 .before .index2 .ensures .0) at (c0 .before .before .loop-test .taken) in
     record { fits = omega (arith, hq, x .walkable .holds .most) }
 
 array-write-notes : tie.Need-array-write-notes Inv-loop μ-loop
@@ -119,7 +119,7 @@ array-write-notes c =
     let s = c3 .before .before .before .before .before .before .before .before .before .before in
     let (x, hq) = s .pre in
     let lower = c3 .loop .inv .lower in
-    let upper = rw (c3 .before .wide2 .ensures .0) at (c0 .before .before .loop-test .taken) in
+    let upper = rw (c3 .before .index2 .ensures .0) at (c0 .before .before .loop-test .taken) in
     omega (arith, hq, x .walkable .holds .most)
 
 add-at : tie.Need-add-at Inv-loop μ-loop
@@ -129,7 +129,7 @@ add-at c =
     let s = c3 .before .before .before .before .before .before .before .before .before .before in
     let (x, hq) = s .pre in
     let lower = c3 .loop .inv .lower in
-    let upper = rw (c3 .before .wide2 .ensures .0) at (c0 .before .before .loop-test .taken) in
+    let upper = rw (c3 .before .index2 .ensures .0) at (c0 .before .before .loop-test .taken) in
     let few = place-few x hq lower upper in
     search needs
 
@@ -143,11 +143,11 @@ loop-again c =
     let s = c3 .before .before .before .before .before .before .before .before .before .before in
     let (x, hq) = s .pre in
     let lower = c3 .loop .inv .lower in
-    let upper = rw (c3 .before .wide2 .ensures .0) at (c0 .before .before .loop-test .taken) in
+    let upper = rw (c3 .before .index2 .ensures .0) at (c0 .before .before .loop-test .taken) in
     let c8 = c .before .before .before .before .before .before .before .before in
-    let (e, noted) = rw (c0 .wide3 .ensures .0) at (c8 .exhaust .ensures) in
-    let (state, post) = rw (c0 .wide3 .ensures .0) at (c .add .ensures) in
-    let row = rw (c0 .wide3 .ensures .0) at (c .before .before .before .before .before .put-row .ensures) in
+    let (e, noted) = rw (c0 .index3 .ensures .0) at (c8 .exhaust .ensures) in
+    let (state, post) = rw (c0 .index3 .ensures .0) at (c .add .ensures) in
+    let row = rw (c0 .index3 .ensures .0) at (c .before .before .before .before .before .put-row .ensures) in
     kept-more x hq lower upper (c3 .loop .inv) e noted state post row
 
 same-length : tie.Need-same-length Inv-loop μ-loop
@@ -157,7 +157,7 @@ returns : tie.Need-returns Inv-loop μ-loop
 returns c =
     let c1 = c .before in
     let (x, hq) = c1 .before .before .before .before .before .before .before .before .before .before .pre in
-    kept-end x hq (c1 .loop .inv) (omega (arith, c .loop-test .left, c1 .before .wide2 .ensures .0))
+    kept-end x hq (c1 .loop .inv) (omega (arith, c .loop-test .left, c1 .before .index2 .ensures .0))
 
 pub fill-worker-spec : {M : Type 1} → statement M
 fill-worker-spec =
@@ -166,17 +166,17 @@ fill-worker-spec =
     Inv-loop
     μ-loop
     start-walk-requires
-    mul-wide
-    element-copy-out-wide
-    wide-requires
-    add-wide
-    mul-wide-2
-    element-copy-out-wide-2
-    wide-requires-2
+    mul-index
+    element-copy-out-index
+    index-requires
+    add-index
+    mul-index-2
+    element-copy-out-index-2
+    index-requires-2
     loop-holds
-    mul-wide-3
-    element-copy-out-wide-3
-    wide-requires-3
+    mul-index-3
+    element-copy-out-index-3
+    index-requires-3
     exhaust-requires
     put-row-requires
     add-requires

@@ -49,8 +49,8 @@ same-length c = search needs
 returns : tie.Need-returns
 returns c =
     let s = c .before .before .before .before .before in
-    let wide = add-sub-cancel-left (s .args .k * s .args .p) (s .args .p) in
-    rw (c .before .before .write-row .ensures, width s, wide)
+    let index = add-sub-cancel-left (s .args .k * s .args .p) (s .args .p) in
+    rw (c .before .before .write-row .ensures, width s, index)
 
 pub put-row-spec : {M : Type 1} → statement M
 put-row-spec =

@@ -3,14 +3,14 @@ use borrow.Author.Needs.{needs}
 use Rattle.walk.proofs.advance.Statement.{statement}
 use Rattle.walk.proofs.advance.Tie as tie
 
-mul-wide : tie.Need-mul-wide
-mul-wide c = search needs
+mul-index : tie.Need-mul-index
+mul-index c = search needs
 
-element-copy-out-wide : tie.Need-element-copy-out-wide
-element-copy-out-wide c = search needs
+element-copy-out-index : tie.Need-element-copy-out-index
+element-copy-out-index c = search needs
 
-wide-requires : tie.Need-wide-requires
-wide-requires c κs = search needs
+index-requires : tie.Need-index-requires
+index-requires c κs = search needs
 
 add-done : tie.Need-add-done
 add-done c = search needs
@@ -25,15 +25,15 @@ element-write-done : tie.Need-element-write-done
 element-write-done c = search needs
 
 returns : tie.Need-returns
-returns c = rw (c .wide .ensures .0)
+returns c = rw (c .index .ensures .0)
 
 pub advance-spec : {M : Type 1} → statement M
 advance-spec =
     tie.close
     (tie.spec
-    mul-wide
-    element-copy-out-wide
-    wide-requires
+    mul-index
+    element-copy-out-index
+    index-requires
     add-done
     cast-done
     mul-done

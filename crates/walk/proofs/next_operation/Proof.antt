@@ -8,51 +8,51 @@ use Rattle.walk.proofs.NextOperations.{next-found, next-past}
 use Rattle.walk.proofs.next_operation.Statement.{statement}
 use Rattle.walk.proofs.next_operation.Tie as tie
 
-mul-wide : tie.Need-mul-wide
-mul-wide c = search needs
+mul-index : tie.Need-mul-index
+mul-index c = search needs
 
-element-copy-out-wide : tie.Need-element-copy-out-wide
-element-copy-out-wide c = search needs
+element-copy-out-index : tie.Need-element-copy-out-index
+element-copy-out-index c = search needs
 
-wide-requires : tie.Need-wide-requires
-wide-requires c κs = search needs
+index-requires : tie.Need-index-requires
+index-requires c κs = search needs
 
-mul-wide-2 : tie.Need-mul-wide-2
-mul-wide-2 c = search needs
+mul-index-2 : tie.Need-mul-index-2
+mul-index-2 c = search needs
 
-element-copy-out-wide-2 : tie.Need-element-copy-out-wide-2
-element-copy-out-wide-2 c = search needs
+element-copy-out-index-2 : tie.Need-element-copy-out-index-2
+element-copy-out-index-2 c = search needs
 
-wide-requires-2 : tie.Need-wide-requires-2
-wide-requires-2 c κs = search needs
+index-requires-2 : tie.Need-index-requires-2
+index-requires-2 c κs = search needs
 
 add-at : tie.Need-add-at
 add-at c = search needs
 
-add-wide : tie.Need-add-wide
-add-wide c = search needs
+add-index : tie.Need-add-index
+add-index c = search needs
 
-mul-wide-3 : tie.Need-mul-wide-3
-mul-wide-3 c = search needs
+mul-index-3 : tie.Need-mul-index-3
+mul-index-3 c = search needs
 
-element-copy-out-wide-3 : tie.Need-element-copy-out-wide-3
-element-copy-out-wide-3 c = search needs
+element-copy-out-index-3 : tie.Need-element-copy-out-index-3
+element-copy-out-index-3 c = search needs
 
-wide-requires-3 : tie.Need-wide-requires-3
-wide-requires-3 c κs = search needs
+index-requires-3 : tie.Need-index-requires-3
+index-requires-3 c κs = search needs
 
-mul-wide-4 : tie.Need-mul-wide-4
-mul-wide-4 c = search needs
+mul-index-4 : tie.Need-mul-index-4
+mul-index-4 c = search needs
 
-element-copy-out-wide-4 : tie.Need-element-copy-out-wide-4
-element-copy-out-wide-4 c =
+element-copy-out-index-4 : tie.Need-element-copy-out-index-4
+element-copy-out-index-4 c =
     let c8 = c .before .before .before .before .before .before .before .before in
     let x = c8 .pre .0 in
     let end = part-start (x .holds) (x .indexed) (c8 .args .q + 1) (omega (arith, c8 .pre .1, x .holds .most)) in
-    omega (arith, c .if1 .taken, c .before .wide3 .ensures .0, x .holds .few)
+    omega (arith, c .if1 .taken, c .before .index3 .ensures .0, x .holds .few)
 
-wide-requires-4 : tie.Need-wide-requires-4
-wide-requires-4 c κs = search needs
+index-requires-4 : tie.Need-index-requires-4
+index-requires-4 c κs = search needs
 
 returns : tie.Need-returns
 returns c =
@@ -61,8 +61,8 @@ returns c =
     let c5 = c3 .before .before in
     let c7 = c5 .before .before in
     let c10 = c7 .before .before .before in
-    let read = next-found (c10 .pre .0) (c10 .pre .1) _ (c7 .wide .ensures .0) (c5 .wide2 .ensures .0) in
-    c .wide4 .ensures .0 ∙ read (c3 .wide3 .ensures .0) (c2 .if1 .taken)
+    let read = next-found (c10 .pre .0) (c10 .pre .1) _ (c7 .index .ensures .0) (c5 .index2 .ensures .0) in
+    c .index4 .ensures .0 ∙ read (c3 .index3 .ensures .0) (c2 .if1 .taken)
 
 returns-2 : tie.Need-returns-2
 returns-2 c =
@@ -70,26 +70,26 @@ returns-2 c =
     let c3 = c1 .before .before in
     let c5 = c3 .before .before in
     let c8 = c5 .before .before .before in
-    let read = next-past (c8 .pre .0) (c8 .pre .1) _ (c5 .wide .ensures .0) (c3 .wide2 .ensures .0) in
-    read (c1 .wide3 .ensures .0) (c .if1 .left)
+    let read = next-past (c8 .pre .0) (c8 .pre .1) _ (c5 .index .ensures .0) (c3 .index2 .ensures .0) in
+    read (c1 .index3 .ensures .0) (c .if1 .left)
 
 pub next-operation-spec : {M : Type 1} → statement M
 next-operation-spec =
     tie.close
     (tie.spec
-    mul-wide
-    element-copy-out-wide
-    wide-requires
-    mul-wide-2
-    element-copy-out-wide-2
-    wide-requires-2
+    mul-index
+    element-copy-out-index
+    index-requires
+    mul-index-2
+    element-copy-out-index-2
+    index-requires-2
     add-at
-    add-wide
-    mul-wide-3
-    element-copy-out-wide-3
-    wide-requires-3
-    mul-wide-4
-    element-copy-out-wide-4
-    wide-requires-4
+    add-index
+    mul-index-3
+    element-copy-out-index-3
+    index-requires-3
+    mul-index-4
+    element-copy-out-index-4
+    index-requires-4
     returns
     returns-2)

@@ -8,14 +8,14 @@ use Rattle.walk.proofs.EventBits.{event-below}
 use Rattle.walk.proofs.note_at.Statement.{statement}
 use Rattle.walk.proofs.note_at.Tie as tie
 
-mul-wide : tie.Need-mul-wide
-mul-wide c = search needs
+mul-index : tie.Need-mul-index
+mul-index c = search needs
 
-element-copy-out-wide : tie.Need-element-copy-out-wide
-element-copy-out-wide c = search needs
+element-copy-out-index : tie.Need-element-copy-out-index
+element-copy-out-index c = search needs
 
-wide-requires : tie.Need-wide-requires
-wide-requires c κs = search needs
+index-requires : tie.Need-index-requires
+index-requires c κs = search needs
 
 -- the event of the Wait
 event : (c : tie.After-struct-known2) → c .before .before .before .operation-of .result .number < 256
@@ -25,19 +25,19 @@ event c =
     let c7 = c5 .before .before in
     let s = c7 .before .before in
     let two = c .before .if3 .taken in
-    event-below (s .pre .0) (rw (c5 .wide .ensures .0) (s .pre .1 .each _ (c7 .if1 .taken))) (c3 .operation-of .ensures)
-    (omega (arith, two)) (omega (arith, two))
+    event-below (s .pre .0) (rw (c5 .index .ensures .0) (s .pre .1 .each _ (c7 .if1 .taken)))
+    (c3 .operation-of .ensures) (omega (arith, two)) (omega (arith, two))
 
 returns : tie.Need-returns
 unfolding noteAt
 returns c =
     let inside = lt-ltb _ _ (c .before .before .before .if1 .taken) in
-    simp (inside, ← c .before .wide .ensures .0, eq-eqb _ _ (c .if2 .taken))
+    simp (inside, ← c .before .index .ensures .0, eq-eqb _ _ (c .if2 .taken))
 
 operation-of-requires : tie.Need-operation-of-requires
 operation-of-requires c κs =
     let c3 = c .before .before .before in
-    rw (c .before .wide .ensures .0) (c3 .before .before .pre .1 .each _ (c3 .if1 .taken))
+    rw (c .before .index .ensures .0) (c3 .before .before .pre .1 .each _ (c3 .if1 .taken))
 
 add-result : tie.Need-add-result
 add-result c = let small = event c in search needs
@@ -53,7 +53,7 @@ returns-2 c =
     let inside = lt-ltb _ _ (c5 .before .before .if1 .taken) in
     let other = ne-eqb _ _ (c3 .before .if2 .left) in
     let wait = eq-eqb _ _ (c .before .if3 .taken) in
-    simp (inside, ← c5 .wide .ensures .0, other, ← c3 .operation-of .ensures, wait)
+    simp (inside, ← c5 .index .ensures .0, other, ← c3 .operation-of .ensures, wait)
 
 returns-3 : tie.Need-returns-3
 unfolding noteAt
@@ -62,48 +62,48 @@ returns-3 c =
     let c4 = c2 .before .before in
     let inside = lt-ltb _ _ (c4 .before .before .if1 .taken) in
     let other = ne-eqb _ _ (c2 .before .if2 .left) in
-    simp (inside, ← c4 .wide .ensures .0, other, ← c2 .operation-of .ensures, ne-eqb _ _ (c .if3 .left))
+    simp (inside, ← c4 .index .ensures .0, other, ← c2 .operation-of .ensures, ne-eqb _ _ (c .if3 .left))
 
-add-wide : tie.Need-add-wide
-add-wide c = search needs
+add-index : tie.Need-add-index
+add-index c = search needs
 
-mul-wide-2 : tie.Need-mul-wide-2
-mul-wide-2 c = search needs
+mul-index-2 : tie.Need-mul-index-2
+mul-index-2 c = search needs
 
-element-copy-out-wide-2 : tie.Need-element-copy-out-wide-2
-element-copy-out-wide-2 c = search needs
+element-copy-out-index-2 : tie.Need-element-copy-out-index-2
+element-copy-out-index-2 c = search needs
 
-wide-requires-2 : tie.Need-wide-requires-2
-wide-requires-2 c κs = search needs
+index-requires-2 : tie.Need-index-requires-2
+index-requires-2 c κs = search needs
 
 returns-4 : tie.Need-returns-4
 unfolding noteAt
 returns-4 c =
     let outside = le-ltb _ _ (c .before .before .before .if1 .left) in
-    simp (outside, ← c .before .wide2 .ensures .0, le-leb _ _ (c .if4 .taken))
+    simp (outside, ← c .before .index2 .ensures .0, le-leb _ _ (c .if4 .taken))
 
 returns-5 : tie.Need-returns-5
 unfolding noteAt
 returns-5 c =
     let outside = le-ltb _ _ (c .before .before .before .if1 .left) in
-    simp (outside, ← c .before .wide2 .ensures .0, lt-leb _ _ (c .if4 .left))
+    simp (outside, ← c .before .index2 .ensures .0, lt-leb _ _ (c .if4 .left))
 
 pub note-at-spec : {M : Type 1} → statement M
 note-at-spec =
     tie.close
     (tie.spec
-    mul-wide
-    element-copy-out-wide
-    wide-requires
+    mul-index
+    element-copy-out-index
+    index-requires
     returns
     operation-of-requires
     add-result
     cast-result
     returns-2
     returns-3
-    add-wide
-    mul-wide-2
-    element-copy-out-wide-2
-    wide-requires-2
+    add-index
+    mul-index-2
+    element-copy-out-index-2
+    index-requires-2
     returns-4
     returns-5)

@@ -18,24 +18,24 @@ abbrev μ-loop : tie.MeasureT-loop
 loop-holds : tie.Need-loop-holds Inv-loop μ-loop
 loop-holds c = passed-start _ _ _ _ _ _
 
-mul-wide : tie.Need-mul-wide Inv-loop μ-loop
-mul-wide c = let few = c .before .before .before .pre .1 .inside in search needs
+mul-index : tie.Need-mul-index Inv-loop μ-loop
+mul-index c = let few = c .before .before .before .pre .1 .inside in search needs
 
-element-copy-out-wide : tie.Need-element-copy-out-wide Inv-loop μ-loop
-element-copy-out-wide c = omega (arith, c .before .before .before .pre .1 .inside, c .loop-test .taken)
+element-copy-out-index : tie.Need-element-copy-out-index Inv-loop μ-loop
+element-copy-out-index c = omega (arith, c .before .before .before .pre .1 .inside, c .loop-test .taken)
 
-wide-requires : tie.Need-wide-requires Inv-loop μ-loop
-wide-requires c κs = search needs
+index-requires : tie.Need-index-requires Inv-loop μ-loop
+index-requires c κs = search needs
 
 passes-on-requires : tie.Need-passes-on-requires Inv-loop μ-loop
 passes-on-requires c κs =
     let c5 = c .before .before .before .before .before in
     let below = c5 .pre .1 .each _ (c .before .before .loop-test .taken) in
-    (c5 .pre .0, rw (c .wide .ensures .0) below)
+    (c5 .pre .0, rw (c .index .ensures .0) below)
 
 returns : tie.Need-returns Inv-loop μ-loop
 returns c =
-    let stops = c .before .before .wide .ensures .0 in
+    let stops = c .before .before .index .ensures .0 in
     passed-stop (c .before .before .before .before .before .loop .inv)
     (rw (← stops, ← c .before .passes-on .ensures) (not-true _ (c .if1 .taken)))
 
@@ -47,7 +47,7 @@ loop-less c = search needs
 
 loop-again : tie.Need-loop-again Inv-loop μ-loop
 loop-again c =
-    let stops = c .before .before .wide .ensures .0 in
+    let stops = c .before .before .index .ensures .0 in
     passed-more (c .before .before .before .before .before .loop .inv) (omega arith)
     (rw (← stops, ← c .before .passes-on .ensures) (not-false _ (c .if1 .left)))
 
@@ -61,9 +61,9 @@ stop-of-spec =
     Inv-loop
     μ-loop
     loop-holds
-    mul-wide
-    element-copy-out-wide
-    wide-requires
+    mul-index
+    element-copy-out-index
+    index-requires
     passes-on-requires
     returns
     add-at

@@ -26,16 +26,16 @@ loop-holds c =
     let (x, long, noted) = c .before .before .before .before .pre in
     (way-free (way-start _ _ _ long) noted (x .holds .workers) (c .next-free .ensures), noted)
 
-mul-wide : tie.Need-mul-wide Inv-loop μ-loop
-mul-wide c = search needs
+mul-index : tie.Need-mul-index Inv-loop μ-loop
+mul-index c = search needs
 
-element-copy-out-wide : tie.Need-element-copy-out-wide Inv-loop μ-loop
-element-copy-out-wide c =
+element-copy-out-index : tie.Need-element-copy-out-index Inv-loop μ-loop
+element-copy-out-index c =
     let c1 = c .before in
     omega (arith, c .loop-test .taken, c1 .before .before .before .before .before .pre .0 .holds .most)
 
-wide-requires : tie.Need-wide-requires Inv-loop μ-loop
-wide-requires c κs = search needs
+index-requires : tie.Need-index-requires Inv-loop μ-loop
+index-requires c κs = search needs
 
 turn-requires : tie.Need-turn-requires Inv-loop μ-loop
 turn-requires c κs =
@@ -44,24 +44,24 @@ turn-requires c κs =
     let test = c .before .before .before .before .before .loop-test .taken in
     way-asks (c6 .before .before .before .before .before .pre .0) way test noted
 
-mul-wide-2 : tie.Need-mul-wide-2 Inv-loop μ-loop
-mul-wide-2 c = search needs
+mul-index-2 : tie.Need-mul-index-2 Inv-loop μ-loop
+mul-index-2 c = search needs
 
-element-copy-out-wide-2 : tie.Need-element-copy-out-wide-2 Inv-loop μ-loop
-element-copy-out-wide-2 c =
+element-copy-out-index-2 : tie.Need-element-copy-out-index-2 Inv-loop μ-loop
+element-copy-out-index-2 c =
     let c7 = c .before .before .before .before .before .before .before in
     let most = c7 .before .before .before .before .before .pre .0 .holds .most in
     omega (arith, c .before .before .before .before .before .before .loop-test .taken, most)
 
-wide-requires-2 : tie.Need-wide-requires-2 Inv-loop μ-loop
-wide-requires-2 c κs = search needs
+index-requires-2 : tie.Need-index-requires-2 Inv-loop μ-loop
+index-requires-2 c κs = search needs
 
 sub-left : tie.Need-sub-left Inv-loop μ-loop
 sub-left c =
     let c2 = c .before .before in
     let more = c2 .turn .ensures .0 .count in
-    let now = c .wide2 .ensures .0 in
-    let was = c2 .before .before .before .before .wide .ensures .0 in
+    let now = c .index2 .ensures .0 in
+    let was = c2 .before .before .before .before .index .ensures .0 in
     search needs
 
 sub-left-2 : tie.Need-sub-left-2 Inv-loop μ-loop
@@ -69,8 +69,8 @@ sub-left-2 c =
     let c2 = c .before .before in
     let c6 = c2 .before .before .before .before in
     let few = way-few (c6 .before .before .before .loop .inv .0) (c2 .turn .ensures .0) in
-    let now = c .wide2 .ensures .0 in
-    let was = c6 .wide .ensures .0 in
+    let now = c .index2 .ensures .0 in
+    let was = c6 .index .ensures .0 in
     search needs
 
 next-free-requires-2 : tie.Need-next-free-requires-2 Inv-loop μ-loop
@@ -86,7 +86,7 @@ loop-less c =
     let c12 = c9 .before .before .before in
     let most = c12 .before .before .before .before .before .pre .0 .holds .most in
     let less = way-less (c12 .loop .inv .0) (c5 .turn .ensures .0) most (c9 .before .before .loop-test .taken) in
-    rw (c3 .wide2 .ensures .0, c9 .wide .ensures .0) (less (c .next-free2 .ensures .from-on))
+    rw (c3 .index2 .ensures .0, c9 .index .ensures .0) (less (c .next-free2 .ensures .from-on))
 
 loop-again : tie.Need-loop-again Inv-loop μ-loop
 loop-again c =
@@ -96,7 +96,7 @@ loop-again c =
     let c12 = c9 .before .before .before in
     let x = c12 .before .before .before .before .before .pre .0 in
     let (turned, noted) = c5 .turn .ensures in
-    let way = rw (← c3 .wide2 .ensures .0, ← c9 .wide .ensures .0) at (way-turn (c12 .loop .inv .0) turned) in
+    let way = rw (← c3 .index2 .ensures .0, ← c9 .index .ensures .0) at (way-turn (c12 .loop .inv .0) turned) in
     (way-free way noted (x .holds .workers) (c .next-free2 .ensures), noted)
 
 returns : tie.Need-returns Inv-loop μ-loop
@@ -114,13 +114,13 @@ walk-on-spec =
     μ-loop
     next-free-requires
     loop-holds
-    mul-wide
-    element-copy-out-wide
-    wide-requires
+    mul-index
+    element-copy-out-index
+    index-requires
     turn-requires
-    mul-wide-2
-    element-copy-out-wide-2
-    wide-requires-2
+    mul-index-2
+    element-copy-out-index-2
+    index-requires-2
     sub-left
     sub-left-2
     next-free-requires-2

@@ -10,11 +10,11 @@ use lib.Dec.{eqb}
 use lib.ListN.{length, take, length-map}
 use lib.Seq.{take-suc, take-length}
 use borrow.Author.Tests.{eqb-true, ne-eqb}
-use Rattle.runs.specs.Membership.{upTo}
+use Rattle.basics.specs.Membership.{upTo}
 use Rattle.runs.specs.Workers.{count, earlier, operationsOf}
 use Rattle.runs.proofs.Places.{operationsOf-length}
 use Rattle.trace.specs.declared.Operation.{Operation}
 use Rattle.trace.specs.Trace.{Trace, size, operation, noOperation, workerOf, ofWorker, rank}
 
 -- the operation if it is worker q's
 ofWorker-one : (q : ℕ) (o : Operation) → ofWorker q (o ∷ []) ≡ cond (eqb (o .worker) q) (o ∷ []) []

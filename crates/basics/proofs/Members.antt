@@ -1,16 +1,15 @@
--- Laws of membership. In order: the test `mem`; the tests of all and of some; `_⊆_`; what is done; a list that is
+-- Laws of membership. In order: the test `mem`; the tests of all and of some; `_⊆_`; one operation more; a list that is
 -- split; renumbered operations. Not here: membership in `_++_` and in `map`, which is the library's
 -- (`Memᴰ·append-left`, `Memᴰ·append-right`, `List·Memᴰ·append-cases`, `Memᴰ·map`, `Memᴰ·of-map` of mathlib.Core.List).
 use mathlib.Core.Path.{_≡_, refl, sym, ap, subst}
-use mathlib.Core.Bool.{Bool}
+use mathlib.Core.Bool.{Bool, not}
 use mathlib.Core.List.{List, [], _∷_, _++_, List·Memᴰ·head, List·Memᴰ·tail, Memᴰ·append-left, Memᴰ·append-right}
 use mathlib.Core.List.{List·Memᴰ·append-cases, List·Memᴰ·eq-of-singleton, map, Memᴰ·of-map}
 use mathlib.Core.Logic.{_⊎_, inl, inr, _↔_, _≢_}
 use Prim.Native.Nat.{ℕ}
 use lib.Dec.{T, eqb, eqb→eq, eqb-refl, T-not}
-use Rattle.runs.specs.Membership.{_∈_, _∉_, _⊆_, SameOperations, Different, empty, fresh, mem, allOf, anyOf}
-use Rattle.runs.specs.Steps.{done}
-use Rattle.runs.proofs.Booleans.{booleans, and-left, and-right, and-intro, or-cases, or-left, or-right, decide}
+use Rattle.basics.specs.Membership.{_∈_, _∉_, _⊆_, SameOperations, Different, empty, fresh, mem, allOf, anyOf}
+use Rattle.basics.proofs.Booleans.{booleans, and-left, and-right, and-intro, or-cases, or-left, or-right, decide}
 
 pub here : {x : ℕ} {l : List ℕ} → x ∈ x ∷ l
 here = List·Memᴰ·head refl
@@ -35,8 +34,12 @@ in-mem (List·Memᴰ·tail m) = let h = in-mem m in search booleans
 pub mem-test : (x : ℕ) (l : List ℕ) → T (mem x l) ↔ (x ∈ l)
 mem-test x l = (mem-in x l, λ m. in-mem m)
 
+-- of a written number and a written list, `tt` shows it
+pub lacks : (x : ℕ) (l : List ℕ) → T (not (mem x l)) → x ∉ l
+lacks x l h m = T-not (mem x l) h (in-mem m)
+
 pub in? : (x : ℕ) (l : List ℕ) → (x ∈ l) ⊎ (x ∉ l)
-in? x l = elim (decide (mem x l)) [ inl h ↦ inl (mem-in x l h) | inr h ↦ inr (λ m. T-not (mem x l) h (in-mem m)) ]
+in? x l = elim (decide (mem x l)) [ inl h ↦ inl (mem-in x l h) | inr h ↦ inr (lacks x l h) ]
 
 pub in-by-contradiction : (x : ℕ) (l : List ℕ) → (x ∉ l → ⊥) → x ∈ l
 in-by-contradiction x l f = elim (in? x l) [ inl m ↦ m | inr n ↦ absurd (f n) ]
@@ -91,29 +94,9 @@ pub ⊆-cons : {d e : List ℕ} {x : ℕ} → d ⊆ e → x ∈ e → x ∷ d �
     go (List·Memᴰ·head p) = rw p h
     go (List·Memᴰ·tail m) = s .all m
 
--- ---- what is done: what was done before, and the steps
+-- ---- one operation more
 
-pub done-old : {d : List ℕ} (s : List ℕ) → d ⊆ done d s
-done-old [] = ⊆-refl
-done-old (x ∷ s) = ⊆-trans ⊆-grow (done-old s)
-
-pub done-new : (d s : List ℕ) → s ⊆ done d s
-done-new d [] = ⊆-nil
-done-new d (x ∷ s) = ⊆-cons (done-new (x ∷ d) s) (done-old s .all here)
-
-pub done-least : {d e : List ℕ} (s : List ℕ) → d ⊆ e → s ⊆ e → done d s ⊆ e
-done-least [] p q = p
-done-least (x ∷ s) p q = done-least s (⊆-cons p (q .all here)) (⊆-trans ⊆-grow q)
-
--- from nothing: the operations of the list
-pub done-same : (s : List ℕ) → SameOperations (done [] s) s
-done-same s = record { forth = done-least s ⊆-nil ⊆-refl; back = done-new [] s }
-
-pub done-append : (d s t : List ℕ) → done d (s ++ t) ≡ done (done d s) t
-done-append d [] t = refl
-done-append d (x ∷ s) t = done-append (x ∷ d) s t
-
--- one operation more: at the front of the one, at the end of the other
+-- at the front of the one, at the end of the other
 pub same-snoc : {d u : List ℕ} {x : ℕ} → SameOperations d u → SameOperations (x ∷ d) (u ++ x ∷ [])
 same-snoc {d} {u} {x} e =
     record { forth = ⊆-cons left (Memᴰ·append-right u here); back = record { all = λ m. back m } }
