@@ -1,6 +1,6 @@
 -- What acceptance means. In order: accepted files; files that read as a trace: question 10 and its place;
 -- which refusals there are. What the answer says is in Answers.
-use mathlib.Core.List.{List, [], _∷_, List·Memᴰ·head, Memᴰ·append-left, Memᴰ·append-right}
+use mathlib.Core.List.{List, List·Memᴰ·head, Memᴰ·append-left, Memᴰ·append-right}
 use mathlib.Core.Logic.{inl, inr, _↔_}
 use mathlib.Core.Path.{_≡_, refl, sym, _∙_}
 use Prim.Native.Nat.{ℕ, _<_, _≤_}
@@ -134,5 +134,5 @@ comes-out bytes =
 
 -- their numbers
 pub refused-number : {bytes : List ℕ} {q k : ℕ} → RefusedFile bytes q k → q ∈ fileNumbers
-refused-number {bytes} {q} {k} (by-reading r) = Memᴰ·append-left (10 ∷ []) (reading-number bytes q k r)
+refused-number {bytes} {q} {k} (by-reading r) = Memᴰ·append-left _ (reading-number bytes q k r)
 refused-number (by-runs t e n o) = Memᴰ·append-right readingNumbers (List·Memᴰ·head n)

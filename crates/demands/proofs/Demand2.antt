@@ -3,7 +3,7 @@
 -- promises (`TableCall`, `ListCall`, `RacesCall`, `CanonicalCall`). Those of the report are in Report.
 use mathlib.Core.List.{List}
 use mathlib.Core.Logic.{_↔_, _≢_, Iff·trans}
-use mathlib.Core.Path.{_≡_, sym, ap, _∙_}
+use mathlib.Core.Path.{_≡_, refl, sym, ap, _∙_}
 use native.Mathlib.Nat.{le-refl}
 use native.Mathlib.Omega.{arith}
 use Prim.Native.Nat.{ℕ, _+_, _*_, _<_, _≤_}
@@ -12,10 +12,10 @@ use Rattle.basics.specs.Membership.{_∈_, _∉_, _⊆_, SameOperations}
 use Rattle.basics.proofs.Members.{lacks}
 use Rattle.runs.specs.Workers.{count}
 use Rattle.trace.specs.Form.{base}
-use Rattle.trace.specs.Reading.{reads, fileReading}
+use Rattle.trace.specs.Reading.{Reading, refused, reads, fileReading}
 use Rattle.trace.specs.Refusals.{readingNumbers}
 use Rattle.trace.specs.Trace.{Trace, size, workerOf, rank}
-use Rattle.trace.proofs.Refusals.{reading-number}
+use Rattle.trace.proofs.Refusals.{file-refused-first, reading-number}
 use Rattle.model.specs.LargestRuns.{MaximalExecution, ContainsAllowed, LargestRunWithout, LargestRun, LowestOutside}
 use Rattle.model.specs.Orders.{MustPrecedeIn}
 use Rattle.model.specs.Runs.{RunOf, CompleteRunOf, NoCompleteRun}
@@ -23,10 +23,10 @@ use Rattle.model.proofs.Largest.{execution-largest, execution-definition, execu
 use Rattle.model.proofs.Largest.{execution-exists, execution-nothing}
 use Rattle.model.proofs.SharedOrder.{unordered-executions}
 use Rattle.accept.specs.Acceptance.{AcceptedTrace, acceptAnswer}
-use Rattle.accept.specs.Refusals.{RefusedFile, by-reading, by-runs}
 use Rattle.accept.specs.declared.AcceptAnswer.the-variants.{Accepted, Refused}
+use Rattle.accept.proofs.Accepting.{answer-unread}
 use Rattle.accept.proofs.Answers.{answer-means, accepted-answer}
-use Rattle.accept.proofs.Questions.{refused-place, accepted-complete, refused-incomplete, refused-file}
+use Rattle.accept.proofs.Questions.{refused-place, accepted-complete, refused-incomplete}
 use Rattle.accept.proofs.Questions.{accepted-same, accepted-workers}
 use Rattle.order_table.specs.declared.TableAnswer.{TableAnswer}
 use Rattle.order_table.specs.Refusals.{AcceptedTable}
@@ -230,11 +230,15 @@ module _ (bytes : List ℕ) (t : Trace) (e : fileReading bytes ≡ reads t) wher
 -- No other file is refused 10:
 pub refused-ten-only : (bytes : List ℕ) (k : ℕ) → acceptAnswer bytes ≡ Refused 10 k
     → (t : Trace) × (fileReading bytes ≡ reads t) × NoCompleteRun t
-refused-ten-only bytes k a = go (refused-file bytes 10 k .0 (answer-means bytes 10 k .0 a))
+refused-ten-only bytes k a = go (fileReading bytes) refl
   where
-    go : RefusedFile bytes 10 k → (t : Trace) × (fileReading bytes ≡ reads t) × NoCompleteRun t
-    go (by-reading r) = absurd (lacks 10 readingNumbers tt (reading-number bytes 10 k r))
-    go (by-runs t e n o) = (t, e, refused-ten-exactly bytes t e .0 (k, a))
+    go : (r : Reading) → fileReading bytes ≡ r → (t : Trace) × (fileReading bytes ≡ reads t) × NoCompleteRun t
+    go (refused q j) e =
+        let same : Refused q j ≡ Refused 10 k = answer-unread bytes e ∙ a in
+        let ten : q ≡ 10 = cc in
+        let number = reading-number bytes q j (file-refused-first bytes q j .0 e) in
+        absurd (lacks 10 readingNumbers tt (rw ten at number))
+    go (reads t) e = (t, e, refused-ten-exactly bytes t e .0 (k, a))
 
 -- "A tidied trace reads back as the same workers' operations, while two traces with the same worker count and the same
 -- operations in each worker's order tidy to the same bytes."
