@@ -1,7 +1,7 @@
 -- The report, by demands 1 and 2: what any call that keeps its promise (`ReportCall`) leaves in the lent output, at any
 -- bytes and any output. What a program then prints is those bytes; that it prints them is tested.
 use mathlib.Core.List.{List, [], _∷_, _++_, List·Memᴰ·head, Memᴰ·append-left, Memᴰ·append-right}
-use mathlib.Core.Logic.{_⊎_, inl, inr, _↔_, Iff·trans}
+use mathlib.Core.Logic.{inl, inr, _↔_, Iff·trans}
 use mathlib.Core.Path.{_≡_, refl, sym, _∙_}
 use native.Mathlib.Nat.{mul-le-mul}
 use native.Mathlib.Omega.{arith}

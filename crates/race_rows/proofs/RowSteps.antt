@@ -12,9 +12,8 @@ use lib.ListN.{length, getD, set, take, length-set}
 use lib.Dec.{ltb}
 use lib.Seq.{getD-set-same, getD-set-other, getD-take, take-suc, take-suc-set, take-set-le}
 use borrow.Author.Tests.{ltb-true, lt-ltb, le-ltb}
-use Rattle.basics.proofs.Booleans.{equal?}
+use Rattle.basics.proofs.Booleans.{both-true, equal?}
 use Rattle.trace.specs.Trace.{Trace, size, operation}
-use Rattle.trace.proofs.Answered.{both}
 use Rattle.model.specs.Computed.{unorderedIn}
 use Rattle.race_search.specs.RaceList.{inConflict, isRace}
 use Rattle.race_rows.specs.Rows.{bit, Cells, ConflictsBelow}
@@ -182,7 +181,7 @@ module _ {t : Trace} {a count : ℕ} {row : List ℕ} {i : ℕ} {now : List ℕ}
 
       asked : (ltb a (getD (conflictRow t a) i 0) ≡ true)
           × (inConflict (operation t a) (operation t (getD (conflictRow t a) i 0)) ≡ true)
-      asked = both (ltb a (getD (conflictRow t a) i 0)) _ (here .1)
+      asked = both-true (ltb a (getD (conflictRow t a) i 0)) _ (here .1)
 
   pub kept-more : {b flag : ℕ} → i < count → b ≡ getD now i 0 → flag ≡ bit (isRace t a b)
       → Kept t a count row (i + 1) (set now kept (getD now i 0)) (kept + flag)

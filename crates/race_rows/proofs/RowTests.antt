@@ -10,11 +10,10 @@ use lib.Bits.{bitAnd, bitOr}
 use lib.Dec.{leb, ltb}
 use lib.ListN.{getD}
 use borrow.Author.Tests.{leb-true, le-leb, lt-leb, le-ltb, lt-ltb}
-use Rattle.basics.proofs.Booleans.{test-true, never-passes, less?}
+use Rattle.basics.proofs.Booleans.{test-true, both-true, never-passes, less?}
 use Rattle.trace.specs.declared.Operation.{Operation}
 use Rattle.trace.specs.Reading.{reads, fileReading, traceOf}
 use Rattle.trace.specs.Trace.{size, operation, workerOf, isWrite, isAccess}
-use Rattle.trace.proofs.Answered.{both}
 use Rattle.trace.proofs.Answers.{file-holds}
 use Rattle.model.specs.Computed.{mustPrecedeIn, unorderedIn}
 use Rattle.race_search.specs.Intervals.{overlap}
@@ -117,7 +116,7 @@ module _ {x y : Operation} (h : CellsFit x) (i : CellsFit y) where
     where
       orders : meet ≡ true → (firstCell x ≤ lastCell y) × (firstCell y ≤ lastCell x)
       orders m =
-          let (before, after) = both (leb (firstCell x) (lastCell y)) (leb (firstCell y) (lastCell x)) m in
+          let (before, after) = both-true (leb (firstCell x) (lastCell y)) (leb (firstCell y) (lastCell x)) m in
           (leb-true (firstCell x) (lastCell y) before, leb-true (firstCell y) (lastCell x) after)
 
       go : (r s : Bool) → isAccess (x .kind) ≡ r → isAccess (y .kind) ≡ s → (r && s) ≡ false

@@ -3,7 +3,7 @@ ghost use mathlib.Core.Path.{_≡_};
 ghost use Prim.Native.Nat.{_<_};
 ghost use lib.ListN.{length};
 ghost use Rattle.trace.specs.Reading.{reads, fileReading, traceOf};
-ghost use Rattle.trace.specs.Trace.{size, operation};
+ghost use Rattle.trace.specs.Trace.{size};
 ghost use Rattle.race_search.specs.Premises.{Inside};
 ghost use Rattle.race_rows.specs.Rows.{firstCell, lastCell, CellsFit, ReadsCells, CellsBelow, ReadsPlaces};
 ghost use Rattle.race_rows.specs.Rows.{PlacesBelow, conflictBit, RowOfCells, ConflictsBelow};

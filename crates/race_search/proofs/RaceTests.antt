@@ -8,9 +8,8 @@ use Prim.Native.Nat.{ℕ, _<_, _≤_}
 use lib.Dec.{T, ltb}
 use lib.ListN.{List·getD-eq-default}
 use borrow.Author.Tests.{ltb-true, lt-ltb}
-use Rattle.basics.proofs.Booleans.{both-pass, either-passes, never-passes, less?}
+use Rattle.basics.proofs.Booleans.{both-true, both-pass, either-passes, never-passes, less?}
 use Rattle.trace.specs.Trace.{Trace, size, operation, workerOf, noOperation, isRead, isWrite, isAccess}
-use Rattle.trace.proofs.Answered.{both}
 use Rattle.model.specs.Computed.{unorderedIn, mustPrecedeIn}
 use Rattle.model.specs.Orders.{Unordered}
 use Rattle.model.specs.Rule.{WorkersKnown}
@@ -84,8 +83,8 @@ module _ (t : Trace) (a b : ℕ) where
   first-asked : isRace t a b ≡ true → (a < b) × (inConflict (operation t a) (operation t b) ≡ true)
   unfolding isRace
   first-asked e =
-      let (ascend, rest) = both (ltb a b) _ e in
-      (ltb-true a b ascend, both (inConflict (operation t a) (operation t b)) _ rest .0)
+      let (ascend, rest) = both-true (ltb a b) _ e in
+      (ltb-true a b ascend, both-true (inConflict (operation t a) (operation t b)) _ rest .0)
 
   pub race-ascending : isRace t a b ≡ true → a < b
   race-ascending e = first-asked e .0

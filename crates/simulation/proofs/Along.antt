@@ -16,7 +16,6 @@ use Rattle.basics.specs.Membership.{_∉_}
 use Rattle.basics.proofs.Booleans.{equal?, less?, zero-one}
 use Rattle.basics.proofs.Members.{lacks-snoc}
 use Rattle.runs.specs.Maximal.{MaximalWithout}
-use Rattle.runs.specs.Rule.{without}
 use Rattle.runs.specs.Run.{Run}
 use Rattle.runs.specs.Steps.{done}
 use Rattle.runs.specs.Workers.{earlier}
@@ -32,7 +31,7 @@ use Rattle.runs.proofs.RunsWithout.{without-monotone, run-without, maximal-with
 use Rattle.trace.specs.Trace.{Trace, size, operation, workerOf, isPost, isWait}
 use Rattle.index.specs.Indexed.{Rth}
 use Rattle.model.specs.Computed.{row}
-use Rattle.model.specs.Rule.{rule, order}
+use Rattle.model.specs.Rule.{rule}
 use Rattle.model.specs.Runs.{CompleteRunOf}
 use Rattle.model.proofs.Largest.{execution-means}
 use Rattle.model.proofs.RuleLaws.{rule-monotone, rule-in-turn, order-preference}

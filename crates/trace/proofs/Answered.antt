@@ -1,14 +1,14 @@
 -- What questions answered yes say. In order: the first "no"; the questions of an operation, in both directions; the
 -- questions of a record; the questions of the header.
-use mathlib.Core.Bool.{Bool, true, false, _&&_, cond}
+use mathlib.Core.Bool.{Bool, true, false, cond}
 use mathlib.Core.List.{List, [], _∷_, append-nil}
-use mathlib.Core.Logic.{_⊎_, inl, inr}
 use mathlib.Core.Path.{_≡_, refl}
 use native.Mathlib.Omega.{arith}
-use Prim.Native.Nat.{ℕ, zero, suc, _+_, _^_, _<_, _≤_}
+use Prim.Native.Nat.{ℕ, _+_, _^_, _<_, _≤_}
 use lib.Dec.{T, eqb, leb}
 use lib.ListN.{length, drop}
 use borrow.Author.Tests.{leb-true, ltb-true, eqb-true, lt-ltb, le-leb, eq-eqb}
+use Rattle.basics.proofs.Booleans.{both-true}
 use Rattle.trace.specs.declared.Operation.{Operation}
 use Rattle.trace.specs.Form.{Form, base, recordSize, start}
 use Rattle.trace.specs.LittleEndian.{value}
@@ -33,10 +33,6 @@ pub first-yes : (b : Bool) (x k : ℕ) → 0 < k → cond b x k ≡ 0 → (b ≡
 first-yes true x k h e = (refl, e)
 first-yes false x k h e = absurd (omega arith)
 
-pub both : (a b : Bool) → (a && b) ≡ true → (a ≡ true) × (b ≡ true)
-both true b e = (refl, e)
-both false b e = absurd (let z : _≡_ {A = ℕ} 0 1 = cc in omega arith)
-
 -- a test that is asked only where another passes
 pub asked-if : (a b : Bool) → cond a b true ≡ true → T a → b ≡ true
 asked-if true b e h = e
@@ -58,17 +54,17 @@ pub record Answered (p : ℕ) (o : Operation) : Type 0 where
 pub answered-admitted : {p : ℕ} {o : Operation} → Answered p o → Admitted p o
 unfolding kindKnown eventFits cellsFit
 answered-admitted {p} {o} a =
-    let k = both (leb 1 (o .kind)) (leb (o .kind) 4) (a .kind) in
+    let k = both-true (leb 1 (o .kind)) (leb (o .kind) 4) (a .kind) in
     record {
       worker = ltb-true (o .worker) p (a .worker);
       kind = (leb-true 1 (o .kind) (k .0), leb-true (o .kind) 4 (k .1));
       event = λ h.
           let asked = asked-if (isSync (o .kind)) _ (a .event) h in
-          let b = both (leb (o .number) 255) (eqb (o .length) 0) asked in
+          let b = both-true (leb (o .number) 255) (eqb (o .length) 0) asked in
           (leb-true (o .number) 255 (b .0), eqb-true (o .length) 0 (b .1));
       cells = λ h.
           let asked = asked-if (isAccess (o .kind)) _ (a .cells) h in
-          let b = both (leb 1 (o .length)) (leb (o .number + o .length) 4294967296) asked in
+          let b = both-true (leb 1 (o .length)) (leb (o .number + o .length) 4294967296) asked in
           (leb-true 1 (o .length) (b .0), leb-true (o .number + o .length) 4294967296 (b .1));
     }
 
@@ -145,11 +141,11 @@ header-answered f bytes e =
     let b = first-yes (workersFit (o .worker)) _ 2 (omega arith) (a .1) in
     let c = first-yes (countFits (o .number)) _ 3 (omega arith) (b .1) in
     let d = first-yes (isWhole f (o .number) bytes) 0 4 (omega arith) (c .1) in
-    let h = both (leb (recordSize f) (length bytes)) _ (a .0) in
-    let m = both (marked f bytes) _ (h .1) in
-    let k = both (eqb (o .kind) 0) _ (m .1) in
-    let l = both (eqb (o .length) 0) (ranked f 0 bytes) (k .1) in
-    let w = both (leb 1 (o .worker)) (leb (o .worker) 16) (b .0) in
+    let h = both-true (leb (recordSize f) (length bytes)) _ (a .0) in
+    let m = both-true (marked f bytes) _ (h .1) in
+    let k = both-true (eqb (o .kind) 0) _ (m .1) in
+    let l = both-true (eqb (o .length) 0) (ranked f 0 bytes) (k .1) in
+    let w = both-true (leb 1 (o .worker)) (leb (o .worker) 16) (b .0) in
     record {
       mark = m .0;
       kind = eqb-true _ _ (k .0);
@@ -179,4 +175,4 @@ answered-header f bytes a =
 -- question 1 says that the file has a whole record
 pub header-long : (f : Form) (bytes : List ℕ) → isHeader f bytes ≡ true → recordSize f ≤ length bytes
 unfolding isHeader
-header-long f bytes e = leb-true (recordSize f) (length bytes) (both (leb (recordSize f) (length bytes)) _ e .0)
+header-long f bytes e = leb-true (recordSize f) (length bytes) (both-true (leb (recordSize f) (length bytes)) _ e .0)

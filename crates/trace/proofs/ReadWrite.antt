@@ -11,6 +11,7 @@ use lib.Dec.{eqb}
 use lib.ListN.{length, getD, take, drop, length-drop, take-append-drop}
 use lib.Seq.{take-add, take-all, drop-drop}
 use borrow.Author.Tests.{eqb-true}
+use Rattle.basics.proofs.Booleans.{both-true}
 use Rattle.trace.specs.declared.Operation.{Operation}
 use Rattle.trace.specs.Form.{Form, recordSize, start}
 use Rattle.trace.specs.LittleEndian.{value, digits}
@@ -19,7 +20,7 @@ use Rattle.trace.specs.Reading.{Reading, refused, reads, reading, readin
 use Rattle.trace.specs.Refusals.{operationsIn}
 use Rattle.trace.specs.Trace.{Trace, size, operation, noOperation, rankAfter}
 use Rattle.trace.specs.Writing.{recordBytes, recordsBytes, bytesOf, header, Admitted, Fits, WellFormed, Bytes}
-use Rattle.trace.proofs.Answered.{both, answered-admitted, record-answered, HeaderAnswered, header-answered}
+use Rattle.trace.proofs.Answered.{answered-admitted, record-answered, HeaderAnswered, header-answered}
 use Rattle.trace.proofs.LittleEndian.{length-digits, digits-bytes, digits-value, value-below, tail-bytes}
 use Rattle.trace.proofs.LittleEndian.{drop-bytes}
 use Rattle.trace.proofs.Records.{length-operations, operations-at}
@@ -74,7 +75,7 @@ ten-read f r (a ∷ []) h m l = absurd (omega arith)
 ten-read f r (a ∷ b ∷ []) h m l = absurd (omega arith)
 ten-read f r (a ∷ b ∷ c ∷ []) h m l = absurd (omega arith)
 ten-read f r (a ∷ b ∷ c ∷ d ∷ rest) h m l =
-    let e = both (eqb a (f .first)) (eqb b (f .second)) m in
+    let e = both-true (eqb a (f .first)) (eqb b (f .second)) m in
     let k = tail-bytes (tail-bytes (tail-bytes (tail-bytes h))) in
     simp (
       eqb-true a (f .first) (e .0),

@@ -1,6 +1,6 @@
 -- Notes of why a worker stopped. In order: at the start; a worker that its note holds; looking for one that none holds;
 -- when a worker's counts and the events change; when the operation left out is added.
-use mathlib.Core.Bool.{Bool, true, false, not, cond}
+use mathlib.Core.Bool.{Bool, true, false, cond}
 use mathlib.Core.List.{List}
 use mathlib.Core.Logic.{inl, inr, _≢_}
 use mathlib.Core.Path.{_≡_, refl, sym, ap, _∙_}

@@ -1,6 +1,6 @@
 -- A worker's turn. In order: while the workers below q are blocked, the step is worker q's; it goes on alone; the Post
 -- that ends its turn; the end of its turn without one, and its note.
-use mathlib.Core.Bool.{Bool, true, false, not, cond}
+use mathlib.Core.Bool.{Bool, true, false, cond}
 use mathlib.Core.List.{List, [], _∷_, _++_, append-assoc}
 use mathlib.Core.Logic.{_⊎_, inl, inr, _≢_}
 use mathlib.Core.Path.{_≡_, refl, sym, ap, _∙_}

@@ -10,7 +10,7 @@ use Rattle.basics.proofs.Booleans.{less?}
 use Rattle.trace.specs.Reading.{traceOf}
 use Rattle.trace.specs.Trace.{Trace}
 use Rattle.walk.specs.declared.Walk.{Walk}
-use Rattle.walk.specs.Turns.{Noted, held, HeldTo, Due, Turned}
+use Rattle.walk.specs.Turns.{Noted, HeldTo, Due, Turned}
 use Rattle.walk.specs.Walks.{Walkable, Placed, nextOf, mayRun, walkFrom}
 use Rattle.walk.proofs.Turns.{due-first, due-end}
 use Rattle.walk.proofs.Notes.{noted-held}
