@@ -49,7 +49,7 @@ class Question(enum.IntEnum):
 
 
 class Refused(Exception):
-    """The first question that was answered "no", as `number`, 1 to 17, and the refusal's `place`."""
+    """The first question that was answered "no", as `number` (see `Question`), and the refusal's `place`."""
 
     def __init__(self, number, place):
         super().__init__(number, place)

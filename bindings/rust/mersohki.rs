@@ -5,7 +5,7 @@
 // A program seldom needs all of it.
 #![allow(dead_code)]
 
-/// The first question that was answered "no", 1 to 17 (see [`question`]), and the refusal's place.
+/// The first question that was answered "no" (see [`question`]), and the refusal's place.
 #[derive(Clone, Copy, Debug, PartialEq, Eq)]
 pub struct Refusal {
     pub number: u8,

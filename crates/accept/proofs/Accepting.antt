@@ -1,5 +1,5 @@
--- Question 10 as the code asks it, of a file that reads as a trace. In order: the walk that leaves nothing
--- out; the answer.
+-- Question 10 as the code asks it, of a file that reads as a trace. In order: the walk that leaves nothing out; the
+-- answer.
 use mathlib.Core.List.{List}
 use mathlib.Core.Path.{_≡_}
 use Prim.Native.Nat.{ℕ, _<_, _≤_}

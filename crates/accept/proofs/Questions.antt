@@ -1,5 +1,5 @@
--- What acceptance means. In order: accepted files; files that read as a trace: question 10 and its place;
--- which refusals there are. What the answer says is in Answers.
+-- What acceptance means. In order: accepted files; files that read as a trace: question 10 and its place; which
+-- refusals there are. What the answer says is in Answers.
 use mathlib.Core.List.{List, List·Memᴰ·head, Memᴰ·append-left, Memᴰ·append-right}
 use mathlib.Core.Logic.{inl, inr, _↔_}
 use mathlib.Core.Path.{_≡_, refl, sym, _∙_}

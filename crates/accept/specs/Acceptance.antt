@@ -1,7 +1,7 @@
 -- The questions of a file: which files are accepted, and what the call answers.
 -- Follows: document 01, "The questions". The enum is that of src/lib.rt.
--- Differs: question 10 is asked of what is computed, `firstOutside`. That a file which reads as a trace is refused
--- 10 exactly if its trace has no complete run, and that the place is the lowest operation outside every largest run, is
+-- Differs: question 10 is asked of what is computed, `firstOutside`. That a file which reads as a trace is refused 10
+-- exactly if its trace has no complete run, and that the place is the lowest operation outside every largest run, is
 -- shown in proofs/Questions.
 use mathlib.Core.Bool.{Bool}
 use mathlib.Core.List.{List}

@@ -43,14 +43,13 @@ test-true b = (λ e. rw e tt, go b)
     go true h = refl
     go false h = absurd h
 
-pub both-true : (a b : Bool) → a && b ≡ true → (a ≡ true) × (b ≡ true)
-both-true true b e = (refl, e)
-both-true false b e = absurd (test-true false .0 e)
-
 -- what it means that two tests pass, and that one of them does not, by what it means of each
 pub both-pass : {X Y : Type 0} (a b : Bool) → (a ≡ true) ↔ X → (b ≡ true) ↔ Y → (a && b ≡ true) ↔ (X × Y)
 both-pass true b f g = (λ e. (f .0 refl, g .0 e), λ p. g .1 (p .1))
 both-pass false b f g = (λ e. absurd (test-true false .0 e), λ p. f .1 (p .0))
+
+pub both-true : (a b : Bool) → a && b ≡ true → (a ≡ true) × (b ≡ true)
+both-true a b = both-pass a b (λ e. e, λ e. e) (λ e. e, λ e. e) .0
 
 pub one-fails : {X Y : Type 0} (a b : Bool) → (a ≡ false) ↔ X → (b ≡ false) ↔ Y → (a && b ≡ false) ↔ (X ⊎ Y)
 one-fails true b f g = (

@@ -1,4 +1,4 @@
--- Lists of operations. An operation is its number.
+-- Lists of numbers. An operation is its number, and a run a list of them; refusals have numbers too.
 -- Follows: document 01, "Trace file" (operations are numbered from 0) and "Runs" ("different operations",
 -- "contains", "its set is unique"), of which it says in types what they mean of lists.
 -- Differs: nowhere. `_∈_` is the library's `List·Memᴰ`: a place at which the operation stands. `Different` says

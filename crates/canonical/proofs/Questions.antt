@@ -1,6 +1,6 @@
--- The file's questions, and 17 of a lent output. In order: when none refuses, and when one does; which
--- refusals there are.
-use mathlib.Core.List.{List, [], _∷_, _++_}
+-- The file's questions, and 17 of a lent output. In order: when none refuses, and when one does; which refusals there
+-- are.
+use mathlib.Core.List.{List}
 use Prim.Native.Nat.{ℕ}
 use lib.ListN.{length}
 use Rattle.basics.specs.Membership.{_∈_}
@@ -8,7 +8,7 @@ use Rattle.trace.specs.Refusals.{noPlace, fileNumbers}
 use Rattle.trace.proofs.Outcomes.{ComesOut, asks-at-most, ask-next, pass-as, next-number}
 use Rattle.accept.proofs.Questions.{comes-out, refused-number}
 use Rattle.canonical.specs.CanonicalFile.{canonicalReading}
-use Rattle.canonical.specs.Refusals.{AcceptedOutput, RefusedOutput}
+use Rattle.canonical.specs.Refusals.{AcceptedOutput, RefusedOutput, outputNumbers}
 
 -- ---- when none refuses, and when one does
 
@@ -23,6 +23,5 @@ output-comes-out bytes room =
 
 -- ---- which refusals there are
 
-pub refused-output-number : {bytes : List ℕ} {room q k : ℕ} → RefusedOutput bytes room q k
-    → q ∈ fileNumbers ++ 17 ∷ []
+pub refused-output-number : {bytes : List ℕ} {room q k : ℕ} → RefusedOutput bytes room q k → q ∈ outputNumbers
 refused-output-number r = next-number fileNumbers refused-number r

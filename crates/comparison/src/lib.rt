@@ -5,30 +5,33 @@ use expected::Judgement;
 
 // What was seen, counted by kind: calls by the number of their refusal, where 0 is success; from FILES on, files by the
 // number by which they are refused, where 0 is accepted; and the kinds below.
-pub const KINDS: usize = 64;
+pub const KINDS: usize = 80;
 
-pub const FILES: usize = 20;
+// Refusals have lower numbers.
+pub const NUMBERS: usize = 30;
 
-pub const RUNS: usize = 40;
+pub const FILES: usize = 30;
 
-pub const COMPLETE: usize = 41;
+pub const RUNS: usize = 60;
 
-pub const SHARED_EVENTS: usize = 42;
+pub const COMPLETE: usize = 61;
+
+pub const SHARED_EVENTS: usize = 62;
 
 // The ordered pairs, of these those of different workers, and of these those in conflict.
-pub const ORDERED: usize = 43;
+pub const ORDERED: usize = 63;
 
-pub const ORDERED_APART: usize = 44;
+pub const ORDERED_APART: usize = 64;
 
-pub const CONFLICTS_ORDERED: usize = 45;
+pub const CONFLICTS_ORDERED: usize = 65;
 
-pub const UNORDERED: usize = 46;
+pub const UNORDERED: usize = 66;
 
-pub const RACES: usize = 47;
+pub const RACES: usize = 67;
 
-pub const BEGINNINGS: usize = 48;
+pub const BEGINNINGS: usize = 68;
 
-pub const MISMATCHES: usize = 49;
+pub const MISMATCHES: usize = 69;
 
 pub fn count(seen: &mut [u64; KINDS], kind: usize, by: u64) {
     seen[kind % KINDS] = seen[kind % KINDS] % 1000000000000 + by % 1000000000000;
@@ -36,7 +39,7 @@ pub fn count(seen: &mut [u64; KINDS], kind: usize, by: u64) {
 
 // Counts a call for which `number` was due, and a mismatch where not all was as due.
 pub fn note(seen: &mut [u64; KINDS], number: u8, holds: bool) {
-    count(seen, number as usize % 18, 1);
+    count(seen, number as usize % NUMBERS, 1);
     if !holds {
         count(seen, MISMATCHES, 1);
     }
@@ -178,10 +181,14 @@ fn order_due(judgement: Judgement, orders: &[u32; 64], a: usize, b: usize) -> An
 
 // The beginning of a run
 
+fn operation(x: u16) -> usize {
+    x as usize
+}
+
 // Is x among the numbers from `from` on, and before `to`?
 fn appears(list: &[u16], from: usize, to: usize, x: usize) -> bool {
     for i in from..to {
-        if i < list.len() && basics::index(list[i]) == x {
+        if i < list.len() && operation(list[i]) == x {
             return true;
         }
     }
@@ -192,7 +199,7 @@ fn appears(list: &[u16], from: usize, to: usize, x: usize) -> bool {
 // and not before it; else 0.
 fn part_due(list: &[u16], chosen: usize, other: usize) -> usize {
     for i in 0..list.len() {
-        if basics::index(list[i]) == chosen {
+        if operation(list[i]) == chosen {
             let before = appears(list, 0, i, other);
             let after = appears(list, i, list.len(), other);
             return if chosen != other && after && !before {
@@ -552,7 +559,7 @@ fn canonical_calls(seen: &mut [u64; KINDS], file: &[u8], judgement: Judgement) {
 // All calls
 
 fn count_judgement(seen: &mut [u64; KINDS], judgement: Judgement) {
-    count(seen, FILES + judgement.number as usize % 18, 1);
+    count(seen, FILES + judgement.number as usize % NUMBERS, 1);
     count(seen, RUNS, judgement.runs);
     count(seen, COMPLETE, judgement.complete);
     if judgement.shared {

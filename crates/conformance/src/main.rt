@@ -5,6 +5,7 @@ use comparison::BEGINNINGS;
 use comparison::FILES;
 use comparison::KINDS;
 use comparison::MISMATCHES;
+use comparison::NUMBERS;
 use comparison::RUNS;
 use libc::STDIN_FILENO;
 use libc::STDOUT_FILENO;
@@ -112,7 +113,7 @@ fn print_refused(label: &[u8], number: usize, x: u64) {
 }
 
 fn print_all_refused(label: &[u8], seen: &[u64; KINDS], from: usize) {
-    for number in 1..18 {
+    for number in 1..NUMBERS {
         print_refused(label, number, seen[(from % 40 + number) % KINDS]);
     }
 }

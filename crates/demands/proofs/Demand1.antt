@@ -1,7 +1,7 @@
 -- The customer's demand 1, sentence by sentence, as theorems about what the calls answer and leave in lent memory, at
 -- any file bytes and lent memory: by the definitions that their contracts equal, or, of the calls that write, by their
 -- promises (`TableCall`, `RunsCall`, `ListCall`, `RacesCall`, `CanonicalCall`). Those of the report are in Report.
-use mathlib.Core.List.{List, [], _∷_, _++_}
+use mathlib.Core.List.{List}
 use mathlib.Core.Logic.{_↔_, _≢_}
 use mathlib.Core.Path.{_≡_, refl, sym, _∙_}
 use Prim.Native.Nat.{ℕ, _<_}
@@ -19,6 +19,7 @@ use Rattle.accept.proofs.Answers.{answer-means}
 use Rattle.accept.proofs.Questions.{refused-file, refused-number, comes-out}
 use Rattle.lent.specs.Written.{writtenOver}
 use Rattle.table_rows.specs.Rows.{orderTable}
+use Rattle.order_table.specs.Refusals.{tableNumbers}
 use Rattle.order_table.specs.Table.{tableReading, tableAnswer, TableCall}
 use Rattle.order_table.specs.Table as order-table
 use Rattle.order_table.specs.declared.TableAnswer.{TableAnswer}
@@ -28,10 +29,12 @@ use Rattle.order_table.proofs.Entries.{after-length, after-filled}
 use Rattle.order_table.proofs.Questions.{table-comes-out, refused-table-number}
 use Rattle.pair_order.specs.Order.{orderAnswer}
 use Rattle.pair_order.specs.Order as pair-order
+use Rattle.pair_order.specs.Refusals.{pairNumbers}
 use Rattle.pair_order.specs.declared.OrderAnswer.{OrderAnswer}
 use Rattle.pair_order.specs.declared.OrderAnswer.the-variants as order
 use Rattle.pair_order.proofs.Answers.{answer-unaccepted, order-refused}
 use Rattle.pair_order.proofs.Questions.{pair-comes-out, refused-pair-number}
+use Rattle.two_runs.specs.Refusals.{runsNumbers}
 use Rattle.two_runs.specs.Runs.{runsReading, runsAnswer, RunsCall}
 use Rattle.two_runs.specs.Runs as two-runs
 use Rattle.two_runs.specs.declared.RunsAnswer.{RunsAnswer}
@@ -48,7 +51,7 @@ use Rattle.races.specs.declared.RacesAnswer.{RacesAnswer}
 use Rattle.races.specs.declared.RacesAnswer.the-variants as races
 use Rattle.races.specs.Races.{racesAnswer, shorter, CountCall, RacesCall}
 use Rattle.races.specs.Races as race-answers
-use Rattle.races.specs.Refusals.{RefusedRaces}
+use Rattle.races.specs.Refusals.{RefusedRaces, racesNumbers}
 use Rattle.races.proofs.Answers.{counts-refused, races-refused, races-listed}
 use Rattle.races.proofs.Listed.{lists-length, lists-untouched}
 use Rattle.races.proofs.Questions.{races-comes-out, refused-races-number}
@@ -58,7 +61,7 @@ use Rattle.canonical.specs.declared.CanonicalAnswer.{CanonicalAnswer}
 use Rattle.canonical.specs.declared.CanonicalAnswer.the-variants as canonical
 use Rattle.canonical.specs.CanonicalFile.{canonicalReading, canonicalAnswer, CanonicalCall}
 use Rattle.canonical.specs.CanonicalFile as canonical-file
-use Rattle.canonical.specs.Refusals.{RefusedOutput}
+use Rattle.canonical.specs.Refusals.{RefusedOutput, outputNumbers}
 use Rattle.canonical.proofs.Answers.{output-refused}
 use Rattle.canonical.proofs.Answers as canonical-calls
 use Rattle.canonical.proofs.Outputs as outputs
@@ -75,7 +78,7 @@ pub reading-answers : (bytes : List ℕ) (x : AcceptAnswer) → (acceptAnswer by
 unfolding acceptAnswer
 reading-answers bytes x = outcome-exactly accept.answerOf (comes-out bytes) x
 
--- Its refusal numbers are those of a file's questions (`fileNumbers`):
+-- Its refusal numbers are those of the file's questions (`fileNumbers`):
 pub reading-numbers : (bytes : List ℕ) (q k : ℕ) → acceptAnswer bytes ≡ Refused q k → q ∈ fileNumbers
 reading-numbers bytes q k a = refused-number (refused-file bytes q k .0 (answer-means bytes q k .0 a))
 
@@ -90,8 +93,8 @@ module _ {bytes lent now : List ℕ} {answer : TableAnswer} (c : TableCall bytes
   table-refusal : (q k : ℕ) → answer ≡ table.Refused q k → tableReading bytes (length lent) ≡ refused q k
   table-refusal q k a = table-refused bytes lent q k .0 (sym (c .answers) ∙ a)
 
-  -- Its refusal numbers are those of a file's questions, and 11:
-  pub table-numbers : (q k : ℕ) → answer ≡ table.Refused q k → q ∈ fileNumbers ++ 11 ∷ []
+  -- Its refusal numbers are those of the file's questions, and 11 (`tableNumbers`):
+  pub table-numbers : (q k : ℕ) → answer ≡ table.Refused q k → q ∈ tableNumbers
   table-numbers q k a = refused-table-number (table-comes-out bytes (length lent) .refuses q k .0 (table-refusal q k a))
 
   -- document 01: "Every call that takes a file asks 1 to 10 of it itself." What reading the file refuses, it refuses
@@ -114,9 +117,9 @@ pub order-answers : (bytes : List ℕ) (a b : ℕ) (x : OrderAnswer)
 unfolding orderAnswer
 order-answers bytes a b x = outcome-exactly (pair-order.answerOf a b) (pair-comes-out bytes a b) x
 
--- Its refusal numbers are those of a file's questions, 12 and 13:
+-- Its refusal numbers are those of the file's questions, 12 and 13 (`pairNumbers`):
 pub order-numbers : (bytes : List ℕ) (a b q k : ℕ) → orderAnswer bytes a b ≡ order.Refused q k
-    → q ∈ fileNumbers ++ 12 ∷ 13 ∷ []
+    → q ∈ pairNumbers
 order-numbers bytes a b q k i =
     refused-pair-number (pair-comes-out bytes a b .refuses q k .0 (order-refused bytes a b q k .0 i))
 
@@ -140,8 +143,8 @@ module _ {bytes first second first-now second-now : List ℕ} {a b : ℕ} {answe
       → runsReading bytes a b (length first) (length second) ≡ refused q k
   runs-refusal q k i = runs-refused bytes a b first second q k .0 (sym (c .answers) ∙ i)
 
-  -- Its refusal numbers are those of a file's questions, and 12 to 15:
-  pub runs-numbers : (q k : ℕ) → answer ≡ runs.Refused q k → q ∈ fileNumbers ++ 12 ∷ 13 ∷ 14 ∷ 15 ∷ []
+  -- Its refusal numbers are those of the pair order, 14 and 15 (`runsNumbers`):
+  pub runs-numbers : (q k : ℕ) → answer ≡ runs.Refused q k → q ∈ runsNumbers
   runs-numbers q k i =
       let out = runs-comes-out bytes a b (length first) (length second) in
       refused-runs-number (out .refuses q k .0 (runs-refusal q k i))
@@ -189,8 +192,8 @@ module _ {bytes lent table-now : List ℕ} {room : ℕ} {answer : RacesAnswer}
       let no = races-refused bytes (length lent) room q k .0 (sym (c .answers) ∙ i) in
       races-comes-out bytes (length lent) room .refuses q k .0 no
 
-  -- Its refusal numbers are those of a file's questions, 11 and 16:
-  pub races-numbers : (q k : ℕ) → answer ≡ races.Refused q k → q ∈ fileNumbers ++ 11 ∷ 16 ∷ []
+  -- Its refusal numbers are those of the order table, and 16 (`racesNumbers`):
+  pub races-numbers : (q k : ℕ) → answer ≡ races.Refused q k → q ∈ racesNumbers
   races-numbers q k i = refused-races-number (refused-by q k i)
 
   -- What the order table refuses, it refuses alike, whatever list it is lent:
@@ -223,7 +226,7 @@ module _ {bytes lent table-now : List ℕ} {room : ℕ} {answer : RacesAnswer}
     where
       go : RefusedRaces bytes (length lent) room 16 k
           → (t : Trace) × AcceptedTrace bytes t × (table-now ≡ writtenOver (orderTable t) lent)
-      go (by-earlier r) = absurd (lacks 16 (fileNumbers ++ 11 ∷ []) tt (refused-table-number r))
+      go (by-earlier r) = absurd (lacks 16 tableNumbers tt (refused-table-number r))
       go (by-this t h l n z) = (t, h .accepted, c .leaves-table ∙ after-filled lent h)
 
   -- It is filled after success too:
@@ -267,8 +270,8 @@ module _ {bytes lent now : List ℕ} {answer : CanonicalAnswer} (c : CanonicalCa
   canonical-refusal : (q k : ℕ) → answer ≡ canonical.Refused q k → canonicalReading bytes (length lent) ≡ refused q k
   canonical-refusal q k a = output-refused bytes lent q k .0 (sym (c .answers) ∙ a)
 
-  -- Its refusal numbers are those of a file's questions, and 17:
-  pub canonical-numbers : (q k : ℕ) → answer ≡ canonical.Refused q k → q ∈ fileNumbers ++ 17 ∷ []
+  -- Its refusal numbers are those of the file's questions, and 17 (`outputNumbers`):
+  pub canonical-numbers : (q k : ℕ) → answer ≡ canonical.Refused q k → q ∈ outputNumbers
   canonical-numbers q k a =
       refused-output-number (output-comes-out bytes (length lent) .refuses q k .0 (canonical-refusal q k a))
 

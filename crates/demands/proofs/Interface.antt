@@ -2,19 +2,24 @@
 -- sentence about the calls holds of it: for any function that keeps its promise (`TableFunction`, `RunsFunction`,
 -- `RacesFunction`, `CanonicalFunction`, or the equation that its contract is), at any bytes, any numbers and any lent
 -- memory.
-use mathlib.Core.List.{List, [], _∷_, _++_}
+use mathlib.Core.List.{List}
 use mathlib.Core.Path.{_≡_, refl}
 use Prim.Native.Nat.{ℕ}
 use lib.ListN.{length}
 use Rattle.basics.proofs.Members.{lacks}
 use Rattle.trace.specs.Refusals.{fileNumbers}
 use Rattle.accept.specs.Acceptance.{acceptAnswer}
+use Rattle.order_table.specs.Refusals.{tableNumbers}
 use Rattle.order_table.specs.Table.{tableAnswer, TableCall}
 use Rattle.pair_order.specs.Order.{orderAnswer}
+use Rattle.pair_order.specs.Refusals.{pairNumbers}
+use Rattle.two_runs.specs.Refusals.{runsNumbers}
 use Rattle.two_runs.specs.Runs.{runsAnswer, RunsCall}
 use Rattle.beginning.specs.Computed.{prefixOf}
 use Rattle.races.specs.Races.{shorter, racesAnswer, RacesCall}
+use Rattle.races.specs.Refusals.{racesNumbers}
 use Rattle.canonical.specs.CanonicalFile.{canonicalAnswer, CanonicalCall}
+use Rattle.canonical.specs.Refusals.{outputNumbers}
 use Rattle.c_results.specs.declared.accept_result.AcceptResult.{AcceptResult}
 use Rattle.c_results.specs.declared.table_result.TableResult.{TableResult}
 use Rattle.c_results.specs.declared.order_result.OrderResult.{OrderResult}
@@ -40,13 +45,12 @@ pub c-table : {bytes lent now : List ℕ} {r : TableResult} → TableFunction by
     → TableCall bytes lent (tableRead r) now
 c-table {bytes} {lent} {now} c =
     let call : TableCall bytes lent (tableAnswer bytes lent) now = record { answers = refl; leaves = c .leaves } in
-    rw (c .returns, table-back _ (λ k i. lacks 0 (fileNumbers ++ 11 ∷ []) tt (table-numbers call 0 k i))) call
+    rw (c .returns, table-back _ (λ k i. lacks 0 tableNumbers tt (table-numbers call 0 k i))) call
 
 -- `mersohki_pair_order`
 pub c-order : (bytes : List ℕ) (a b : ℕ) {r : OrderResult} → r ≡ orderResult (orderAnswer bytes a b)
     → orderRead r ≡ orderAnswer bytes a b
-c-order bytes a b e =
-    rw e (order-back _ (λ k i. lacks 0 (fileNumbers ++ 12 ∷ 13 ∷ []) tt (order-numbers bytes a b 0 k i)))
+c-order bytes a b e = rw e (order-back _ (λ k i. lacks 0 pairNumbers tt (order-numbers bytes a b 0 k i)))
 
 -- `mersohki_two_runs`
 pub c-runs : {bytes first second first-now second-now : List ℕ} {a b : ℕ} {r : RunsResult}
@@ -55,8 +59,7 @@ pub c-runs : {bytes first second first-now second-now : List ℕ} {a b : ℕ} {r
 c-runs {bytes} {first} {second} {first-now} {second-now} {a} {b} c =
     let call : RunsCall bytes a b first second (runsAnswer bytes a b first second) first-now second-now
     = record { answers = refl; leaves-first = c .leaves-first; leaves-second = c .leaves-second } in
-    let numbers = fileNumbers ++ 12 ∷ 13 ∷ 14 ∷ 15 ∷ [] in
-    rw (c .returns, runs-back _ (λ k i. lacks 0 numbers tt (runs-numbers call 0 k i))) call
+    rw (c .returns, runs-back _ (λ k i. lacks 0 runsNumbers tt (runs-numbers call 0 k i))) call
 
 -- `mersohki_races`
 pub c-races : {bytes table lower higher table-now lower-now higher-now : List ℕ} {r : RacesResult}
@@ -72,7 +75,7 @@ c-races {bytes} {table} {lower} {higher} {table-now} {lower-now} {higher-now} c 
       leaves-higher = c .leaves-higher;
     } in
     let count = races-as-count call in
-    rw (c .returns, races-back _ (λ k i. lacks 0 (fileNumbers ++ 11 ∷ 16 ∷ []) tt (races-numbers count 0 k i))) call
+    rw (c .returns, races-back _ (λ k i. lacks 0 racesNumbers tt (races-numbers count 0 k i))) call
 
 -- `mersohki_canonical`
 pub c-canonical : {bytes lent now : List ℕ} {r : CanonicalResult} → CanonicalFunction bytes lent r now
@@ -80,7 +83,7 @@ pub c-canonical : {bytes lent now : List ℕ} {r : CanonicalResult} → Canonica
 c-canonical {bytes} {lent} {now} c =
     let call : CanonicalCall bytes lent (canonicalAnswer bytes lent) now
     = record { answers = refl; leaves = c .leaves; byte-elements = c .byte-elements } in
-    rw (c .returns, canonical-back _ (λ k i. lacks 0 (fileNumbers ++ 17 ∷ []) tt (canonical-numbers call 0 k i))) call
+    rw (c .returns, canonical-back _ (λ k i. lacks 0 outputNumbers tt (canonical-numbers call 0 k i))) call
 
 -- `mersohki_beginning`
 pub c-beginning : (first second : List ℕ) (chosen other : ℕ) {r : BeginningResult}

@@ -56,7 +56,7 @@ module _ {bytes lent : List ℕ} {count : ℕ} {now : List ℕ} (c : ReportCall 
       (Iff·trans (outcome-refused textOf text-tells (racesReading bytes tableSpace raceSpace) q k)
       (races-comes-out bytes tableSpace raceSpace .refuses q k))
 
-  -- Its refusal numbers are those of a file's questions, and 16:
+  -- Its refusal numbers are those of the file's questions, and 16:
   pub report-numbers : (q k : ℕ) → take count now ≡ refusal q k → q ∈ fileNumbers ++ 16 ∷ []
   report-numbers q k e = go (report-refused q k .0 e)
     where

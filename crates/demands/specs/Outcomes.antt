@@ -81,8 +81,8 @@ CanonicalOutcome bytes room =
     (AcceptedOutput bytes room)
     (RefusedOutput bytes room)
 
--- the report: the lines of the counts, of each race and of their number, or the line of the refusal by questions 1 to
--- 11 and 16, with a table for every accepted file and "space for 4,096 races"
+-- the report: the lines of the counts, of each race and of their number, or the line of the refusal by the file's
+-- questions, 11 and 16, with a table for every accepted file and "space for 4,096 races"
 abbrev pub ReportOutcome : List ℕ → List ℕ → Type 0
 ReportOutcome bytes =
     Outcome

@@ -44,6 +44,6 @@ order-preference {t} w = canonical-preference (workerOf t) (w .known)
 
 -- ---- a file's workers
 
--- the trace of a file that reads as a trace has known workers
+-- the trace that a file reads as has known workers
 pub holds-workers : {bytes : List ℕ} {p n : ℕ} → HoldsTrace bytes p n → WorkersKnown (traceOf bytes)
 holds-workers h = record { known = λ k l. rw (h .workers) (h .each k (rw (h .count) at l) .worker) }

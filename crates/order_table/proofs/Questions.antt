@@ -1,13 +1,13 @@
--- The file's questions, and 11 of a lent table. In order: when none refuses, and when one does; which
--- refusals there are.
-use mathlib.Core.List.{List, [], _∷_, _++_}
+-- The file's questions, and 11 of a lent table. In order: when none refuses, and when one does; which refusals there
+-- are.
+use mathlib.Core.List.{List}
 use Prim.Native.Nat.{ℕ, _*_}
 use Rattle.basics.specs.Membership.{_∈_}
 use Rattle.trace.specs.Refusals.{noPlace, fileNumbers}
 use Rattle.trace.specs.Trace.{size}
 use Rattle.trace.proofs.Outcomes.{ComesOut, asks-at-most, ask-next, pass-as, next-number}
 use Rattle.accept.proofs.Questions.{comes-out, refused-number}
-use Rattle.order_table.specs.Refusals.{AcceptedTable, RefusedTable}
+use Rattle.order_table.specs.Refusals.{AcceptedTable, RefusedTable, tableNumbers}
 use Rattle.order_table.specs.Table.{tableReading}
 
 -- ---- when none refuses, and when one does
@@ -23,5 +23,5 @@ table-comes-out bytes room =
 
 -- ---- which refusals there are
 
-pub refused-table-number : {bytes : List ℕ} {room q k : ℕ} → RefusedTable bytes room q k → q ∈ fileNumbers ++ 11 ∷ []
+pub refused-table-number : {bytes : List ℕ} {room q k : ℕ} → RefusedTable bytes room q k → q ∈ tableNumbers
 refused-table-number r = next-number fileNumbers refused-number r

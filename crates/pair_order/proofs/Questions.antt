@@ -1,5 +1,5 @@
--- The file's questions, and 12 and 13 of two numbers. In order: when none refuses, and when one does; which
--- refusals there are.
+-- The file's questions, and 12 and 13 of two numbers. In order: when none refuses, and when one does; which refusals
+-- there are.
 use mathlib.Core.List.{List, [], _∷_, _++_}
 use mathlib.Core.Logic.{_⊎_, _≢_}
 use mathlib.Core.Path.{_≡_}
@@ -14,7 +14,7 @@ use Rattle.trace.proofs.Outcomes.{ComesOut, Meaning, asks-below, asks-both, ask
 use Rattle.accept.specs.Acceptance.{acceptance, AcceptedTrace}
 use Rattle.accept.proofs.Questions.{comes-out, refused-number}
 use Rattle.pair_order.specs.Order.{bothBelow, theyDiffer, pairReading}
-use Rattle.pair_order.specs.Refusals.{AcceptedNumbers, AcceptedPair, RefusedNumbers, RefusedPair}
+use Rattle.pair_order.specs.Refusals.{AcceptedNumbers, AcceptedPair, RefusedNumbers, RefusedPair, pairNumbers}
 
 -- ---- when none refuses, and when one does
 
@@ -47,5 +47,5 @@ module _ (bytes : List ℕ) (a b : ℕ) where
 -- ---- which refusals there are
 
 pub refused-pair-number : {bytes : List ℕ} {a b q k : ℕ} → RefusedPair bytes a b q k
-    → q ∈ fileNumbers ++ 12 ∷ 13 ∷ []
+    → q ∈ pairNumbers
 refused-pair-number r = next-number (fileNumbers ++ 12 ∷ []) (next-number fileNumbers refused-number) r

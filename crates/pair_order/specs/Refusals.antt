@@ -3,11 +3,11 @@
 -- every accepted trace and every two different operations a and b of it".
 -- Differs: nowhere. `RefusedFile`, for the file's questions, is in the crate `accept`, and `RefusedNext`, for a further
 -- question, in `trace`. proofs/Questions shows that the call refuses exactly so.
-use mathlib.Core.List.{List}
+use mathlib.Core.List.{List, [], _∷_, _++_}
 use mathlib.Core.Logic.{_⊎_, _≢_}
 use mathlib.Core.Path.{_≡_}
 use Prim.Native.Nat.{ℕ, _<_, _≤_}
-use Rattle.trace.specs.Refusals.{noPlace, RefusedNext}
+use Rattle.trace.specs.Refusals.{noPlace, RefusedNext, fileNumbers}
 use Rattle.trace.specs.Trace.{Trace, size}
 use Rattle.accept.specs.Acceptance.{AcceptedTrace}
 use Rattle.accept.specs.Refusals.{RefusedFile}
@@ -31,3 +31,7 @@ RefusedNumbers bytes a b =
 -- or both are below n, and they are the same
 abbrev pub RefusedPair : List ℕ → ℕ → ℕ → ℕ → ℕ → Type 0
 RefusedPair bytes a b = RefusedNext (RefusedNumbers bytes a b) (AcceptedNumbers bytes a b) 13 (λ t. a ≡ b) noPlace
+
+-- the numbers of these questions
+abbrev pub pairNumbers : List ℕ
+pairNumbers = fileNumbers ++ 12 ∷ 13 ∷ []

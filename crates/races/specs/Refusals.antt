@@ -3,11 +3,11 @@
 -- Differs: nowhere. `AcceptedTable` and `RefusedTable`, for the file's questions and 11, are in the crate
 -- `order_table`, and `RefusedNext`, for a further question, in `trace`. `raceCount` is the length of the only list of
 -- the races (crate `race_search`, proofs/OnlyList). proofs/Questions shows that the call refuses exactly so.
-use mathlib.Core.List.{List}
+use mathlib.Core.List.{List, [], _∷_, _++_}
 use Prim.Native.Nat.{ℕ, _<_, _≤_}
 use Rattle.trace.specs.Refusals.{RefusedNext}
 use Rattle.trace.specs.Trace.{Trace}
-use Rattle.order_table.specs.Refusals.{AcceptedTable, RefusedTable}
+use Rattle.order_table.specs.Refusals.{AcceptedTable, RefusedTable, tableNumbers}
 use Rattle.race_search.specs.RaceList.{raceCount}
 
 -- the file is accepted and the table, of `numbers` numbers, long enough (`AcceptedTable`); and the list, of `room`
@@ -20,3 +20,7 @@ pub record AcceptedRaces (bytes : List ℕ) (numbers room : ℕ) (t : Trace) : T
 abbrev pub RefusedRaces : List ℕ → ℕ → ℕ → ℕ → ℕ → Type 0
 RefusedRaces bytes numbers room =
     RefusedNext (RefusedTable bytes numbers) (AcceptedTable bytes numbers) 16 (λ t. room < raceCount t) raceCount
+
+-- the numbers of these questions
+abbrev pub racesNumbers : List ℕ
+racesNumbers = tableNumbers ++ 16 ∷ []

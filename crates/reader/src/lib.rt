@@ -142,8 +142,7 @@ fn record_question(file: &[u8], at: usize, p: u8) -> u8
     0
 }
 
-// Does no question refuse the record at a place? All are asked, so that the answer hangs on no branch by
-// the kind.
+// Does no question refuse the record at a place? All are asked, so that the answer hangs on no branch by the kind.
 fn record_passes(file: &[u8], at: usize, p: u8) -> bool
     requires { ⌜ at + recordSize base ≤ length (now file) ⌝ }
     ensures { λ r. ⌜ ((before : List Operation)

@@ -58,7 +58,7 @@ tableSpace = 16384
 abbrev pub raceSpace : ℕ
 raceSpace = 4096
 
--- the text for a file: by the file's questions, 11 and 16 of it, with that much space
+-- the text for a file: by its questions, 11 and 16, with that much space
 unfoldable pub reportText : List ℕ → List ℕ
 reportText bytes = textOf (racesReading bytes tableSpace raceSpace)
 

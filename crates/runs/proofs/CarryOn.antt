@@ -3,12 +3,12 @@
 use mathlib.Core.List.{List, [], _++_}
 use Prim.Native.Nat.{ℕ}
 use Rattle.basics.specs.Membership.{upTo}
-use Rattle.basics.proofs.Lengths.{upTo-in}
 use Rattle.runs.specs.Rule.{Rule, Monotone}
 use Rattle.runs.specs.Run.{Run, Complete}
 use Rattle.runs.specs.Maximal.{Maximal, MaximalWithout}
 use Rattle.runs.specs.Steps.{done}
 use Rattle.runs.specs.Greedy.{Preference, greedyFrom, greedy}
+use Rattle.runs.proofs.Lengths.{upTo-in}
 use Rattle.runs.proofs.MaximalRuns.{maximal-complete}
 use Rattle.runs.proofs.GreedyRuns.{greedy-from-maximal, greedy-maximal, greedy-without-maximal}
 

@@ -6,15 +6,15 @@ use Rattle.basics.specs.Membership.{_⊆_, SameOperations}
 use Rattle.basics.proofs.Members.{here, ⊆-refl, ⊆-nil, ⊆-trans, ⊆-grow, ⊆-cons}
 use Rattle.runs.specs.Steps.{done}
 
-pub done-old : {d : List ℕ} (s : List ℕ) → d ⊆ done d s
+done-old : {d : List ℕ} (s : List ℕ) → d ⊆ done d s
 done-old [] = ⊆-refl
 done-old (x ∷ s) = ⊆-trans ⊆-grow (done-old s)
 
-pub done-new : (d s : List ℕ) → s ⊆ done d s
+done-new : (d s : List ℕ) → s ⊆ done d s
 done-new d [] = ⊆-nil
 done-new d (x ∷ s) = ⊆-cons (done-new (x ∷ d) s) (done-old s .all here)
 
-pub done-least : {d e : List ℕ} (s : List ℕ) → d ⊆ e → s ⊆ e → done d s ⊆ e
+done-least : {d e : List ℕ} (s : List ℕ) → d ⊆ e → s ⊆ e → done d s ⊆ e
 done-least [] p q = p
 done-least (x ∷ s) p q = done-least s (⊆-cons p (q .all here)) (⊆-trans ⊆-grow q)
 

@@ -11,13 +11,13 @@ use lib.Dec.{T, T-not, not-T, eqb, eqb→eq, ltb→lt}
 use lib.ListN.{length}
 use Rattle.basics.specs.Membership.{_∈_, Different, empty, fresh}
 use Rattle.basics.proofs.Booleans.{booleans, test-equal}
-use Rattle.basics.proofs.Lengths.{below-length}
 use Rattle.runs.specs.Rule.{Rule, Monotone, without}
 use Rattle.runs.specs.Run.{Run}
 use Rattle.runs.specs.Maximal.{Maximal, MaximalWithout}
 use Rattle.runs.specs.Steps.{Addable, Closed, Steps, stop, step, done, addable}
 use Rattle.runs.specs.Greedy.{Preference, firstThat, foundThen, greedyFrom, greedy}
 use Rattle.runs.proofs.Done.{done-append}
+use Rattle.runs.proofs.Lengths.{below-length}
 use Rattle.runs.proofs.RunSteps.{addable-test, run-empty, run-steps, steps-run, steps-append}
 use Rattle.runs.proofs.MaximalRuns.{closed-maximal}
 use Rattle.runs.proofs.RunsWithout.{without-monotone, maximal-without}

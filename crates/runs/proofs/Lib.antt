@@ -1,10 +1,11 @@
--- The theorems. How a rule is put together: MonotoneTests, ProgramOrder. What is done: Done.
+-- The theorems. Tools: Lengths, Done. How a rule is put together: MonotoneTests, ProgramOrder.
 -- The theory: Exchange, MaximalRuns, RunsWithout, CarryOn, AnyOrder, Before, SharedOrder, HoldingBack.
 -- The means against the definitions: RunSteps, GreedyRuns, Counts, Rows, CanonicalOrder, Places, LowestWorker.
 -- Example: one rule worked out.
+pub mod Lengths
+pub mod Done
 pub mod MonotoneTests
 pub mod ProgramOrder
-pub mod Done
 pub mod CanonicalOrder
 pub mod RunSteps
 pub mod Exchange

@@ -8,13 +8,13 @@ use native.Mathlib.Omega.{arith}
 use lib.ListN.{length, length-append}
 use Rattle.basics.specs.Membership.{_∉_, _⊆_, SameOperations}
 use Rattle.basics.proofs.Members.{here, ⊆-trans, different-apart}
-use Rattle.basics.proofs.Lengths.{different-length}
 use Rattle.runs.specs.Rule.{Rule, Monotone}
 use Rattle.runs.specs.Run.{Run, Complete}
 use Rattle.runs.specs.Maximal.{Maximal, Largest}
 use Rattle.runs.specs.Steps.{Closed, done}
 use Rattle.runs.proofs.Done.{done-same}
 use Rattle.runs.proofs.Exchange.{add-run, run-added, closed-contains}
+use Rattle.runs.proofs.Lengths.{different-length}
 
 module _ {R : Rule} (mono : Monotone R) where
   pub closed-maximal : {m : List ℕ} → Run R m → Closed R (done [] m) → Maximal R m

@@ -9,9 +9,9 @@ use lib.Dec.{T, eqb, eqb→eq, eqb-refl}
 use Rattle.basics.specs.Membership.{_∈_, mem, upTo}
 use Rattle.basics.proofs.Booleans.{and-left, if-test}
 use Rattle.basics.proofs.Members.{mem-test, all-test}
-use Rattle.basics.proofs.Lengths.{upTo-in, upTo-below}
 use Rattle.runs.specs.Rule.{Rule, without}
 use Rattle.runs.specs.Workers.{turn, InTurn}
+use Rattle.runs.proofs.Lengths.{upTo-in, upTo-below}
 
 module _ (worker : ℕ → ℕ) where
   pub turn-test : (d : List ℕ) (x : ℕ) → T (turn worker d x) ↔ ((y : ℕ) → worker y ≡ worker x → y < x → y ∈ d)

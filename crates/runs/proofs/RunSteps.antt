@@ -10,11 +10,11 @@ use Rattle.basics.specs.Membership.{_∈_, _∉_, SameOperations, Different, em
 use Rattle.basics.proofs.Booleans.{booleans}
 use Rattle.basics.proofs.Members.{here, there, mem-test, in-by-contradiction, ⊆-refl}
 use Rattle.basics.proofs.Members.{same-snoc, different-apart}
-use Rattle.basics.proofs.Lengths.{below-length, holds-length}
 use Rattle.runs.specs.Rule.{Rule, Monotone}
 use Rattle.runs.specs.Run.{Run, Complete}
 use Rattle.runs.specs.Steps.{Addable, Steps, stop, step, done, addable, steps, isRun}
 use Rattle.runs.proofs.Done.{done-same}
+use Rattle.runs.proofs.Lengths.{below-length, holds-length}
 
 module _ {R : Rule} where
   -- ---- steps put together and taken apart

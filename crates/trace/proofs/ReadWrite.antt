@@ -19,7 +19,7 @@ use Rattle.trace.specs.Questions.{operationIn, marked, ranked, headerQue
 use Rattle.trace.specs.Reading.{Reading, refused, reads, reading, readingFrom}
 use Rattle.trace.specs.Refusals.{operationsIn}
 use Rattle.trace.specs.Trace.{Trace, size, operation, noOperation, rankAfter}
-use Rattle.trace.specs.Writing.{recordBytes, recordsBytes, bytesOf, header, Admitted, Fits, WellFormed, Bytes}
+use Rattle.trace.specs.Writing.{recordBytes, recordsBytes, bytesOf, header, Admitted, FitsRecord, WellFormed, Bytes}
 use Rattle.trace.proofs.Answered.{answered-admitted, record-answered, HeaderAnswered, header-answered}
 use Rattle.trace.proofs.LittleEndian.{length-digits, digits-bytes, digits-value, value-below, tail-bytes}
 use Rattle.trace.proofs.LittleEndian.{drop-bytes}
@@ -124,7 +124,7 @@ records-read f p (suc left) before bytes t h l e =
 -- ---- the file
 
 -- what a record holds fits it
-operation-fits : (bytes : List ℕ) → Bytes bytes → Fits (operationIn bytes)
+operation-fits : (bytes : List ℕ) → Bytes bytes → FitsRecord (operationIn bytes)
 unfolding operationIn
 operation-fits bytes h =
     record {

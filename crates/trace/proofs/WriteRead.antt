@@ -14,7 +14,7 @@ use Rattle.trace.specs.LittleEndian.{digits}
 use Rattle.trace.specs.Questions.{operationIn, marked, ranked, headerQuestion, recordQuestion}
 use Rattle.trace.specs.Reading.{reads, reading, readingFrom}
 use Rattle.trace.specs.Trace.{Trace, size, noOperation, rankAfter}
-use Rattle.trace.specs.Writing.{recordBytes, recordsBytes, bytesOf, header, Admitted, Fits, WellFormed}
+use Rattle.trace.specs.Writing.{recordBytes, recordsBytes, bytesOf, header, Admitted, FitsRecord, WellFormed}
 use Rattle.trace.proofs.Answered.{admitted-answered, answered-record, answered-header}
 use Rattle.trace.proofs.LittleEndian.{value-digits, value-append, length-digits}
 
@@ -30,7 +30,7 @@ module _ (f : Form) (r : ℕ) (o : Operation) where
     unfolding recordBytes marked
     marked-record = simp (eq-eqb (f .first) (f .first) refl, eq-eqb (f .second) (f .second) refl)
 
-    pub operation-record : Fits o → operationIn (recordBytes f r o ++ rest) ≡ o
+    pub operation-record : FitsRecord o → operationIn (recordBytes f r o ++ rest) ≡ o
     unfolding operationIn recordBytes digits
     operation-record h =
         ap₂ (λ (n l : ℕ). record { worker = o .worker; kind = o .kind; number = n; length = l })
@@ -50,20 +50,20 @@ module _ (f : Form) (r : ℕ) (o : Operation) where
 -- operations that records can hold and that no question refuses
 pub record Storable (p : ℕ) (os : List Operation) : Type 0 where
   pub each : (k : ℕ) → k < length os → Admitted p (getD os k noOperation)
-  pub fits : (k : ℕ) → k < length os → Fits (getD os k noOperation)
+  pub fits : (k : ℕ) → k < length os → FitsRecord (getD os k noOperation)
 
 module _ {p : ℕ} {o : Operation} {os : List Operation} (h : Storable p (o ∷ os)) where
   pub storable-first : Admitted p o
   storable-first = h .each 0 (omega arith)
 
-  pub storable-fits : Fits o
+  pub storable-fits : FitsRecord o
   storable-fits = h .fits 0 (omega arith)
 
   pub storable-rest : Storable p os
   storable-rest =
       record { each = λ k l. h .each (suc k) (omega arith); fits = λ k l. h .fits (suc k) (omega arith) }
 
-question-record : (f : Form) (p : ℕ) (before : List Operation) (o : Operation) (rest : List ℕ) → Admitted p o → Fits o
+question-record : (f : Form) (p : ℕ) (before : List Operation) (o : Operation) (rest : List ℕ) → Admitted p o → FitsRecord o
     → recordQuestion f p before (recordBytes f (rankAfter before o) o ++ rest) ≡ 0
 question-record f p before o rest a h =
     let bytes = recordBytes f (rankAfter before o) o ++ rest in

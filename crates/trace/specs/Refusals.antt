@@ -1,8 +1,8 @@
 -- Which refusal a file gets, said without following the reader: by the first "no"; and which numbers there are.
 -- Follows: document 01, "The questions": "asked in this order; the first 'no' gives its number", "then record by record
 -- in file order"; "a refusal is the number and a place: the operation number for 5 to 9", otherwise 0.
--- Differs: the form is a parameter. proofs/FirstNo shows that reading refuses exactly so, proofs/Refusals that it gives
--- no other number, and proofs/Outcomes both of a further question (`thenAsk`).
+-- Differs: the form is a parameter. proofs/FirstNo shows that reading refuses exactly so, proofs/Refusals that a file
+-- of document 01's form gets no other number, and proofs/Outcomes both of a further question (`thenAsk`).
 use mathlib.Core.List.{List, [], _∷_, _++_}
 use mathlib.Core.Path.{_≡_}
 use Prim.Native.Nat.{ℕ, zero, suc, _<_}
@@ -47,7 +47,8 @@ pub data RefusedNext (Before : ℕ → ℕ → Type 0) (Passed : Trace → Type 
 
 -- ---- the numbers of refusals
 
--- of the questions that reading a file asks: of its header, and of each record
+-- of the header's questions, and of a record's, in the order asked, as far as a file of document 01's form can get
+-- them: 23, which asks for the rank, refuses no such file
 abbrev pub headerNumbers : List ℕ
 headerNumbers = 1 ∷ 2 ∷ 3 ∷ 4 ∷ []
 
@@ -57,7 +58,7 @@ recordNumbers = 5 ∷ 6 ∷ 7 ∷ 8 ∷ 9 ∷ []
 abbrev pub readingNumbers : List ℕ
 readingNumbers = headerNumbers ++ recordNumbers
 
--- of all questions that a file is asked, by every call that takes one: "Every call that takes a file asks 1 to 10 of it
--- itself." A call's further numbers stand behind them: those of the order table are `fileNumbers ++ 11 ∷ []`.
+-- of the file's questions: "Every call that takes a file asks 1 to 10 of it itself." A call's own numbers stand behind
+-- them, beside its refusals.
 abbrev pub fileNumbers : List ℕ
 fileNumbers = readingNumbers ++ 10 ∷ []

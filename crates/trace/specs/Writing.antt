@@ -31,7 +31,7 @@ header t = record { worker = t .workers; kind = 0; number = size t; length = 0 }
 unfoldable pub bytesOf : Form → Trace → List ℕ
 bytesOf f t = recordBytes f 0 (header t) ++ recordsBytes f [] (t .operations)
 
--- what the questions want of an operation, in a trace of p workers
+-- what `operationQuestions` want of an operation, in a trace of p workers
 pub record Admitted (p : ℕ) (o : Operation) : Type 0 where
   pub worker : o .worker < p
   pub kind : (1 ≤ o .kind) × (o .kind ≤ 4)
@@ -39,7 +39,7 @@ pub record Admitted (p : ℕ) (o : Operation) : Type 0 where
   pub cells : T (isAccess (o .kind)) → (1 ≤ o .length) × (o .number + o .length ≤ 4294967296)
 
 -- its number has four bytes, and its length two
-pub record Fits (o : Operation) : Type 0 where
+pub record FitsRecord (o : Operation) : Type 0 where
   pub number : o .number < 4294967296
   pub length : o .length < 65536
 
@@ -49,7 +49,7 @@ pub record WellFormed (t : Trace) : Type 0 where
   pub most : t .workers ≤ 16
   pub few : size t ≤ 1024
   pub each : (k : ℕ) → k < size t → Admitted (t .workers) (operation t k)
-  pub fits : (k : ℕ) → k < size t → Fits (operation t k)
+  pub fits : (k : ℕ) → k < size t → FitsRecord (operation t k)
 
 -- a file: every element is a byte
 pub record Bytes (bytes : List ℕ) : Type 0 where

@@ -1,6 +1,6 @@
 // The trace file: its mark, its record size, and the operations of a file that reads as a trace.
-// The functions with a `requires` are for the crates above: the reader, which asks those questions, and the crates that
-// have had a file read before.
+// The functions with a `requires` are for the crates above: the reader, which asks a file's questions of its header and
+// its records, and the crates that have had a file read before.
 ghost use mathlib.Core.Path.{_≡_};
 ghost use Prim.Native.Nat.{_+_, _≤_, _<_};
 ghost use lib.ListN.{length, drop};

@@ -1,20 +1,20 @@
--- The file's questions, and 12 to 15 of two numbers and two buffers. In order: when none refuses, and when one
--- does; which refusals there are.
+-- The file's questions, and 12 to 15 of two numbers and two buffers. In order: when none refuses, and when one does;
+-- which refusals there are.
 use mathlib.Core.List.{List, [], _∷_, _++_}
 use mathlib.Core.Logic.{_⊎_}
 use Prim.Native.Nat.{ℕ, _<_, _≤_}
 use Rattle.basics.specs.Membership.{_∈_}
 use Rattle.trace.specs.Reading.{thenAsk}
-use Rattle.trace.specs.Refusals.{noPlace, fileNumbers}
+use Rattle.trace.specs.Refusals.{noPlace}
 use Rattle.trace.specs.Trace.{size}
 use Rattle.trace.proofs.Outcomes.{ComesOut, Meaning, asks-at-most, asks-both, ask-next, pass-as, next-number}
 use Rattle.model.specs.Orders.{MustPrecedeIn, Unordered}
 use Rattle.model.proofs.SharedOrder.{unordered-test, ordered-test}
 use Rattle.accept.proofs.Questions.{accepted-workers}
 use Rattle.pair_order.specs.Order.{pairReading}
-use Rattle.pair_order.specs.Refusals.{AcceptedPair}
+use Rattle.pair_order.specs.Refusals.{AcceptedPair, pairNumbers}
 use Rattle.pair_order.proofs.Questions.{pair-comes-out, refused-pair-number}
-use Rattle.two_runs.specs.Refusals.{AcceptedUnordered, AcceptedRuns, RefusedOrdered, RefusedRuns}
+use Rattle.two_runs.specs.Refusals.{AcceptedUnordered, AcceptedRuns, RefusedOrdered, RefusedRuns, runsNumbers}
 use Rattle.two_runs.specs.Runs.{areUnordered, eachHolds, runsReading}
 
 -- ---- when none refuses, and when one does
@@ -50,8 +50,5 @@ module _ (bytes : List ℕ) (a b : ℕ) where
 -- ---- which refusals there are
 
 pub refused-runs-number : {bytes : List ℕ} {a b x y q k : ℕ} → RefusedRuns bytes a b x y q k
-    → q ∈ fileNumbers ++ 12 ∷ 13 ∷ 14 ∷ 15 ∷ []
-refused-runs-number r =
-    next-number (fileNumbers ++ 12 ∷ 13 ∷ 14 ∷ [])
-    (next-number (fileNumbers ++ 12 ∷ 13 ∷ []) refused-pair-number)
-    r
+    → q ∈ runsNumbers
+refused-runs-number r = next-number (pairNumbers ++ 14 ∷ []) (next-number pairNumbers refused-pair-number) r

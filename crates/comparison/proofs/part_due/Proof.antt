@@ -13,14 +13,14 @@ abbrev μ-loop : tie.MeasureT-loop
 loop-holds : tie.Need-loop-holds Inv-loop μ-loop
 loop-holds c = search needs
 
-mul-index : tie.Need-mul-index Inv-loop μ-loop
-mul-index c = search needs
+mul-operation : tie.Need-mul-operation Inv-loop μ-loop
+mul-operation c = search needs
 
-shared-slice-read-index : tie.Need-shared-slice-read-index Inv-loop μ-loop
-shared-slice-read-index c = search needs
+shared-slice-read-operation : tie.Need-shared-slice-read-operation Inv-loop μ-loop
+shared-slice-read-operation c = search needs
 
-index-requires : tie.Need-index-requires Inv-loop μ-loop
-index-requires c κs = search needs
+operation-requires : tie.Need-operation-requires Inv-loop μ-loop
+operation-requires c κs = search needs
 
 appears-requires : tie.Need-appears-requires Inv-loop μ-loop
 appears-requires c κs = search needs
@@ -56,9 +56,9 @@ part-due-spec =
     Inv-loop
     μ-loop
     loop-holds
-    mul-index
-    shared-slice-read-index
-    index-requires
+    mul-operation
+    shared-slice-read-operation
+    operation-requires
     appears-requires
     appears-requires-2
     add-result

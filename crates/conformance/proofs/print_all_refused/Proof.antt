@@ -8,7 +8,7 @@ abbrev Inv-loop : tie.InvT-loop
 Inv-loop label seen from number₀ number = Unit {0}
 
 abbrev μ-loop : tie.MeasureT-loop
-μ-loop label seen from number₀ number = 18 - number
+μ-loop label seen from number₀ number = 30 - number
 
 loop-holds : tie.Need-loop-holds Inv-loop μ-loop
 loop-holds c = search needs
