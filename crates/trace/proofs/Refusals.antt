@@ -45,7 +45,7 @@ header-number : (bytes : List ℕ) → (headerQuestion base bytes ≡ 0 → ⊥)
 unfolding headerQuestion
 header-number bytes some = first-no-number (headerQuestions base bytes) some
 
--- the rank, which the form has not, is not asked for
+-- document 01's form has no rank: 23 is answered yes
 record-number : (p : ℕ) (before : List Operation) (bytes : List ℕ) → (recordQuestion base p before bytes ≡ 0 → ⊥)
     → recordQuestion base p before bytes ∈ recordNumbers
 unfolding recordQuestion

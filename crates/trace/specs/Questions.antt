@@ -101,12 +101,12 @@ eventFits o = cond (isSync (o .kind)) (leb (o .number) 255 && eqb (o .length) 0)
 unfoldable pub cellsFit : Operation → Bool
 cellsFit o = cond (isAccess (o .kind)) (leb 1 (o .length) && leb (o .number + o .length) 4294967296) true
 
--- 23. Is the rank "the count of its worker's records so far, itself included"? This is `ranked` at that count.
-
 -- asked of the operation of a record, in a file of p workers
 abbrev pub operationQuestions : ℕ → Operation → List Question
 operationQuestions p o =
     ask 6 (workerKnown p o) ∷ ask 7 (kindKnown o) ∷ ask 8 (eventFits o) ∷ ask 9 (cellsFit o) ∷ []
+
+-- 23. Is the rank "the count of its worker's records so far, itself included"? This is `ranked` at that count.
 
 -- asked of a record that stands behind those of the operations `before`
 abbrev pub recordQuestions : Form → ℕ → List Operation → List ℕ → List Question
