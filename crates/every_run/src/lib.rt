@@ -1,5 +1,5 @@
 // Runs of a trace of up to eight operations, by document 01's definition: every one of them is tried.
-use small_file::SmallTrace;
+ghost use Prim.Native.Nat.{_≤_};
 
 // A set of operations has a bit for each: whether x is in it.
 pub fn has(set: u8, x: usize) -> bool {
@@ -10,62 +10,115 @@ pub fn with(set: u8, x: usize) -> u8 {
     set | 1 << (x % 8)
 }
 
-// What may follow what: for each operation, the earlier ones of its worker, and the Posts of its event.
+// What may follow what. Operation x may follow when all operations of the set all[x] are done, and one of each of the
+// sets one_of[8 x + j], for j below sets[x]. `known` says that each operation's rules are among those below.
 pub struct Rules {
     pub count: usize,
-    pub waits: u8,
-    pub earlier: [u8; 8],
-    pub posts: [u8; 8],
+    pub known: bool,
+    pub all: [u8; 8],
+    pub sets: [u8; 8],
+    pub one_of: [u8; 64],
 }
 
-fn is_earlier(t: SmallTrace, y: usize, x: usize) -> bool {
-    y < x && t.worker[y % 8] == t.worker[x % 8]
+fn unknown(r: Rules) -> Rules {
+    let mut less = r;
+    less.known = false;
+    less
 }
 
-fn is_post_for(t: SmallTrace, y: usize, x: usize) -> bool {
-    y < t.count && t.kind[y % 8] == 1 && t.number[y % 8] == t.number[x % 8]
-}
-
-// Notes what y is for x, an earlier operation of its worker, a Post of its event; and whether x is a Wait.
-fn with_pair(r: Rules, t: SmallTrace, x: usize, y: usize) -> Rules {
+// The rules with: x needs all of the set.
+fn needs_all(r: Rules, x: usize, set: u8) -> Rules {
     let mut more = r;
-    let earlier = with(r.earlier[x % 8], y);
-    let posts = with(r.posts[x % 8], y);
-    if is_earlier(t, y, x) {
-        more.earlier[x % 8] = earlier;
-    }
-    if is_post_for(t, y, x) {
-        more.posts[x % 8] = posts;
-    }
-    if t.kind[x % 8] == 2 {
-        more.waits = with(r.waits, x);
-    }
+    more.all[x % 8] = r.all[x % 8] | set;
     more
 }
 
-pub fn rules_of(t: SmallTrace) -> Rules {
+// The rules with: x needs one of the set.
+fn needs_one(r: Rules, x: usize, set: u8) -> Rules {
+    let j = r.sets[x % 8];
+    if 8 <= j {
+        return unknown(r);
+    }
+    let mut more = r;
+    more.one_of[x % 8 * 8 + j as usize] = set;
+    more.sets[x % 8] = j + 1;
+    more
+}
+
+// The earlier operations of x's worker.
+fn earlier(file: &[u8], x: usize) -> u8 {
+    let mut set: u8 = 0;
+    for y in 0..8 {
+        if y < x && plain_file::worker_of(file, y) == plain_file::worker_of(file, x) {
+            set = with(set, y);
+        }
+    }
+    set
+}
+
+// The Posts of an event.
+fn posts(file: &[u8], count: usize, event: u32) -> u8 {
+    let mut set: u8 = 0;
+    for y in 0..8 {
+        let post = y < count && plain_file::kind_of(file, y) == plain_file::POST;
+        if post && plain_file::number_of(file, y) == event {
+            set = with(set, y);
+        }
+    }
+    set
+}
+
+// What x needs by its kind: a Wait a Post of its event, and the others nothing.
+fn with_kind(r: Rules, file: &[u8], x: usize) -> Rules {
+    let kind = plain_file::kind_of(file, x);
+    if kind == plain_file::WAIT {
+        return needs_one(r, x, posts(file, r.count, plain_file::number_of(file, x)));
+    }
+    if kind == plain_file::POST || kind == plain_file::READ || kind == plain_file::WRITE {
+        return r;
+    }
+    unknown(r)
+}
+
+pub fn rules_of(file: &[u8]) -> Rules {
+    let count = plain_file::operations(file);
     let mut r = Rules {
-        count: t.count,
-        waits: 0,
-        earlier: [0; 8],
-        posts: [0; 8],
+        count: count,
+        known: count <= 8,
+        all: [0; 8],
+        sets: [0; 8],
+        one_of: [0; 64],
     };
-    for i in 0..64 {
-        r = with_pair(r, t, i / 8, i % 8);
+    for x in 0..8 {
+        if x < count {
+            r = with_kind(needs_all(r, x, earlier(file, x)), file, x);
+        }
     }
     r
 }
 
-// May x follow a run of the operations in `done`? It is not among them, its worker's earlier operations are, and for a
-// Wait some Post of its event is.
+fn wide(b: u8) -> usize
+    ensures { λ r. ⌜ r ≤ 255 ⌝ }
+{
+    b as usize
+}
+
+// Is one of each of the sets that x needs among the operations in `done`?
+fn has_each(r: Rules, done: u8, x: usize) -> bool {
+    for j in 0..wide(r.sets[x % 8]) {
+        if r.one_of[(x % 8 * 8 + j) % 64] & done == 0 {
+            return false;
+        }
+    }
+    true
+}
+
+// May x follow a run of the operations in `done`? It is not among them, and what it needs is.
 pub fn may_follow(r: Rules, done: u8, x: usize) -> bool {
-    if r.count <= x || has(done, x) {
+    if r.count <= x || has(done, x) || r.all[x % 8] & done != r.all[x % 8] {
         return false;
     }
-    if r.earlier[x % 8] & done != r.earlier[x % 8] {
-        return false;
-    }
-    !has(r.waits, x) || r.posts[x % 8] & done != 0
+    has_each(r, done, x)
 }
 
 // The lowest operation from `from` on that may follow, or 8.

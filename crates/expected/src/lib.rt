@@ -1,12 +1,12 @@
 // What is due from the calls on a file of up to eight operations: what all its runs say, by document 01's words.
 use every_run::Rules;
-use small_file::SmallTrace;
+use outcomes::Answer;
 
 // How many operations of worker q are in the set.
-fn of_worker(t: SmallTrace, set: u8, q: usize) -> u16 {
+fn of_worker(file: &[u8], set: u8, q: usize) -> u16 {
     let mut n: u16 = 0;
     for x in 0..8 {
-        if x < t.count && every_run::has(set, x) && t.worker[x] as usize == q {
+        if every_run::has(set, x) && plain_file::worker_of(file, x) == q {
             n = n % 8 + 1;
         }
     }
@@ -14,13 +14,13 @@ fn of_worker(t: SmallTrace, set: u8, q: usize) -> u16 {
 }
 
 // The counts of a file, and the first "no" among its questions with its place, or 0; where the file does not read as a
-// trace, the counts are the largest here, so that memory is lent. `sound` says that the search came to its end, that
-// each largest run contains every run that lacks its operation, and that a trace with a complete run has no dead end;
-// `shared`, that the file is accepted and the event of some Wait has several Posts.
+// trace, the counts are the largest here, so that memory is lent. `sound` says that the rules are known, that the search
+// came to its end, that each largest run contains every run that lacks its operation, and that a trace with a complete
+// run has no dead end; `shared`, that the file is accepted and the event of some Wait has several Posts.
 pub struct Judgement {
     pub number: u8,
     pub place: u32,
-    pub workers: u8,
+    pub workers: usize,
     pub count: usize,
     pub sound: bool,
     pub shared: bool,
@@ -45,11 +45,11 @@ fn are_largest(reached: &[bool; 256], largest: &[u8; 8]) -> bool {
 }
 
 // Entry q of row k at k × p + q.
-fn fill_rows(t: SmallTrace, largest: &[u8; 8], rows: &mut [u16; 136]) {
-    let p = t.workers as usize;
+fn fill_rows(file: &[u8], largest: &[u8; 8], rows: &mut [u16; 136]) {
+    let p = plain_file::workers(file);
     for i in 0..136 {
         if 0 < p {
-            rows[i] = of_worker(t, largest[i / p % 8], i % p);
+            rows[i] = of_worker(file, largest[i / p % 8], i % p);
         }
     }
 }
@@ -70,9 +70,10 @@ fn fill_orders(after: &[u8; 8], orders: &mut [u32; 64]) {
     }
 }
 
+// Is there a set of several operations, one of which has to be done?
 fn has_shared_event(r: Rules) -> bool {
-    for x in 0..8 {
-        if x < r.count && every_run::has(r.waits, x) && 1 < every_run::size(r.posts[x]) {
+    for i in 0..64 {
+        if 1 < every_run::size(r.one_of[i]) {
             return true;
         }
     }
@@ -80,15 +81,15 @@ fn has_shared_event(r: Rules) -> bool {
 }
 
 // Question 10, and what all runs say of the trace.
-fn judged(t: SmallTrace, rows: &mut [u16; 136], orders: &mut [u32; 64]) -> Judgement {
-    let r = every_run::rules_of(t);
+fn judged(file: &[u8], rows: &mut [u16; 136], orders: &mut [u32; 64]) -> Judgement {
+    let r = every_run::rules_of(file);
     let mut reached = [false; 256];
     let mut after = [0u8; 8];
     let mut largest = [0u8; 8];
     let s = every_run::every_run(r, &mut reached, &mut after);
     let whole = every_run::largest_without(&reached, 8);
     every_largest(&reached, &mut largest);
-    fill_rows(t, &largest, rows);
+    fill_rows(file, &largest, rows);
     fill_orders(&after, orders);
     let contained = every_run::contains_runs(&reached, 8, whole) && are_largest(&reached, &largest);
     Judgement {
@@ -98,9 +99,9 @@ fn judged(t: SmallTrace, rows: &mut [u16; 136], orders: &mut [u32; 64]) -> Judge
         } else {
             0
         },
-        workers: t.workers,
-        count: t.count,
-        sound: s.over && contained && (s.complete == 0 || s.dead_ends == 0) && t.count <= 8,
+        workers: plain_file::workers(file),
+        count: r.count,
+        sound: r.known && s.over && contained && (s.complete == 0 || s.dead_ends == 0),
         shared: s.complete != 0 && has_shared_event(r),
         runs: s.runs,
         complete: s.complete,
@@ -110,7 +111,7 @@ fn judged(t: SmallTrace, rows: &mut [u16; 136], orders: &mut [u32; 64]) -> Judge
 // Asks the file's questions, of any bytes; of an accepted file of up to eight operations also the rows of its table and
 // the order of each two operations.
 pub fn judgement_of(file: &[u8], rows: &mut [u16; 136], orders: &mut [u32; 64]) -> Judgement {
-    let v = small_file::first_no(file);
+    let v = plain_file::first_no(file);
     if v.number != 0 {
         return Judgement {
             number: v.number,
@@ -123,24 +124,19 @@ pub fn judgement_of(file: &[u8], rows: &mut [u16; 136], orders: &mut [u32; 64]) 
             complete: 0,
         };
     }
-    judged(small_file::small_trace(file), rows, orders)
+    judged(file, rows, orders)
+}
+
+// What is due from reading the file.
+pub fn reading_due(judgement: Judgement) -> Answer {
+    if judgement.number != 0 {
+        return outcomes::refusal(judgement.number, judgement.place);
+    }
+    let workers = (judgement.workers % 256) as u32;
+    outcomes::success([workers, (judgement.count % 1025) as u32, 0, 0])
 }
 
 // Races
-
-// Do both access cells, one of them to write, and have they a cell in common? The later start is then a cell of both.
-pub fn conflict(t: SmallTrace, x: usize, y: usize) -> bool {
-    let accesses = 3 <= t.kind[x % 8] && 3 <= t.kind[y % 8];
-    if !accesses || t.kind[x % 8] != 4 && t.kind[y % 8] != 4 {
-        return false;
-    }
-    let x_first = t.number[x % 8];
-    let y_first = t.number[y % 8];
-    if x_first <= y_first {
-        return y_first - x_first < t.length[x % 8];
-    }
-    x_first - y_first < t.length[y % 8]
-}
 
 fn put(list: &mut [u16], i: usize, x: usize) {
     if i < list.len() {
@@ -148,8 +144,9 @@ fn put(list: &mut [u16], i: usize, x: usize) {
     }
 }
 
-fn is_race(t: SmallTrace, orders: &[u32; 64], a: usize, b: usize) -> bool {
-    a < b && b < t.count && orders[a % 8 * 8 + b % 8] == 0 && conflict(t, a, b)
+fn is_race(file: &[u8], orders: &[u32; 64], a: usize, b: usize) -> bool {
+    let different = a < b && b < plain_file::operations(file);
+    different && orders[a % 8 * 8 + b % 8] == 0 && plain_file::conflict(file, a, b)
 }
 
 // Puts a pair at place n of the two lists, if it is a race; how many there are then.
@@ -171,10 +168,9 @@ fn put_race(
 
 // The races of an accepted file, ascending by lower, then higher operation; how many there are.
 pub fn races_of(file: &[u8], orders: &[u32; 64], lower: &mut [u16], higher: &mut [u16]) -> usize {
-    let t = small_file::small_trace(file);
     let mut n: usize = 0;
     for i in 0..64 {
-        let race = is_race(t, orders, i / 8, i % 8);
+        let race = is_race(file, orders, i / 8, i % 8);
         n = put_race(race, i / 8, i % 8, n, lower, higher);
     }
     n
@@ -183,19 +179,19 @@ pub fn races_of(file: &[u8], orders: &[u32; 64], lower: &mut [u16], higher: &mut
 // The two runs
 
 // The next operation of worker q, the first of its operations that is not done; 8 where there is none.
-fn next_of(t: SmallTrace, done: u8, q: usize) -> usize {
-    for x in 0..8 {
-        if x < t.count && t.worker[x] as usize == q && !every_run::has(done, x) {
-            return x;
+fn next_of(file: &[u8], done: u8, q: usize) -> usize {
+    for x in 0..plain_file::operations(file) {
+        if plain_file::worker_of(file, x) == q && !every_run::has(done, x) {
+            return x % 8;
         }
     }
     8
 }
 
 // The next operation of the lowest-numbered worker whose next operation may run, other than `held`; 8 where none can.
-fn next_by_rule(t: SmallTrace, r: Rules, done: u8, held: usize) -> usize {
-    for q in 0..16 {
-        let x = next_of(t, done, q);
+fn next_by_rule(file: &[u8], r: Rules, done: u8, held: usize) -> usize {
+    for q in 0..plain_file::workers(file) {
+        let x = next_of(file, done, q);
         if x != held && every_run::may_follow(r, done, x) {
             return x;
         }
@@ -206,15 +202,14 @@ fn next_by_rule(t: SmallTrace, r: Rules, done: u8, held: usize) -> usize {
 // The run that holds back operation `held` by document 01's rule; how many operations it has. Where none but `held` can
 // run, nothing is held back from there on.
 pub fn held_back_run(file: &[u8], held: usize, list: &mut [u16]) -> usize {
-    let t = small_file::small_trace(file);
-    let r = every_run::rules_of(t);
+    let r = every_run::rules_of(file);
     let mut done: u8 = 0;
     let mut kept = held;
     for i in 0..8 {
-        let mut x = next_by_rule(t, r, done, kept);
+        let mut x = next_by_rule(file, r, done, kept);
         if x == 8 {
             kept = 8;
-            x = next_by_rule(t, r, done, kept);
+            x = next_by_rule(file, r, done, kept);
         }
         if x == 8 {
             return i;
@@ -231,7 +226,7 @@ fn operation(x: u16) -> usize {
 
 // Is the list a complete run? Each number may follow those before it, and there are as many as operations.
 pub fn is_complete_run(file: &[u8], list: &[u16]) -> bool {
-    let r = every_run::rules_of(small_file::small_trace(file));
+    let r = every_run::rules_of(file);
     let mut done: u8 = 0;
     for i in 0..list.len() {
         let x = operation(list[i]);

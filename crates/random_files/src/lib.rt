@@ -101,7 +101,7 @@ pub fn random_trace(file: &mut [u8], seed: u64) -> usize {
     let drawn = below(seed, 12);
     let count = if drawn < 8 { drawn } else { 8 };
     let workers = below(second, 4) + 1;
-    test_files::put_header(file, workers, count);
+    test_files::put_header(file, test_files::PLAIN, workers, count);
     random_operations(
         file,
         count as usize,
@@ -110,7 +110,7 @@ pub fn random_trace(file: &mut [u8], seed: u64) -> usize {
         below(third / 64, 5),
         next(fourth),
     );
-    10 + count as usize * 10
+    test_files::file_size(test_files::PLAIN, count as usize)
 }
 
 fn random_byte(seed: u64) -> u32 {
@@ -121,7 +121,8 @@ fn random_byte(seed: u64) -> u32 {
     bytes[below(seed / 64, 8) as usize % 8]
 }
 
-// Damages the bytes of a file of `size` bytes; how many of them are left, or how many there are with more added.
+// Damages the bytes of a file of `size` bytes; how many of them are left, or how many there are with more added. Most
+// changed bytes are any of the file's; some are the worker count, some those of the other fields of the header.
 pub fn damaged(file: &mut [u8], size: usize, seed: u64) -> usize {
     let second = next(seed);
     let third = next(second);

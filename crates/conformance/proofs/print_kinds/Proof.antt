@@ -5,10 +5,10 @@ use Rattle.conformance.proofs.print_kinds.Statement.{statement}
 use Rattle.conformance.proofs.print_kinds.Tie as tie
 
 abbrev Inv-loop : tie.InvT-loop
-Inv-loop labels seen i₀ i = Unit {0}
+Inv-loop labels seen count i₀ i = Unit {0}
 
 abbrev μ-loop : tie.MeasureT-loop
-μ-loop labels seen i₀ i = 10 - i
+μ-loop labels seen count i₀ i = count - i
 
 loop-holds : tie.Need-loop-holds Inv-loop μ-loop
 loop-holds c = search needs

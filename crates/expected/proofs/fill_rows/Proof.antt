@@ -5,13 +5,13 @@ use Rattle.expected.proofs.fill_rows.Statement.{statement}
 use Rattle.expected.proofs.fill_rows.Tie as tie
 
 abbrev Inv-loop : tie.InvT-loop
-Inv-loop t largest rows₀ p i₀ rows i = Unit {0}
+Inv-loop file largest rows₀ p i₀ rows i = Unit {0}
 
 abbrev μ-loop : tie.MeasureT-loop
-μ-loop t largest rows₀ p i₀ rows i = 136 - i
+μ-loop file largest rows₀ p i₀ rows i = 136 - i
 
-cast-p : tie.Need-cast-p Inv-loop μ-loop
-cast-p c = search needs
+workers-requires : tie.Need-workers-requires Inv-loop μ-loop
+workers-requires c κs = search needs
 
 loop-holds : tie.Need-loop-holds Inv-loop μ-loop
 loop-holds c = search needs
@@ -52,7 +52,7 @@ fill-rows-spec =
     (tie.spec
     Inv-loop
     μ-loop
-    cast-p
+    workers-requires
     loop-holds
     div-of-worker
     element-copy-out-of-worker

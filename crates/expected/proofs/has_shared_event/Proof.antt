@@ -5,16 +5,13 @@ use Rattle.expected.proofs.has_shared_event.Statement.{statement}
 use Rattle.expected.proofs.has_shared_event.Tie as tie
 
 abbrev Inv-loop : tie.InvT-loop
-Inv-loop r x₀ x = Unit {0}
+Inv-loop r i₀ i = Unit {0}
 
 abbrev μ-loop : tie.MeasureT-loop
-μ-loop r x₀ x = 8 - x
+μ-loop r i₀ i = 64 - i
 
 loop-holds : tie.Need-loop-holds Inv-loop μ-loop
 loop-holds c = search needs
-
-has-requires : tie.Need-has-requires Inv-loop μ-loop
-has-requires c κs = search needs
 
 element-copy-out-size : tie.Need-element-copy-out-size Inv-loop μ-loop
 element-copy-out-size c = search needs
@@ -25,8 +22,8 @@ size-requires c κs = search needs
 returns : tie.Need-returns Inv-loop μ-loop
 returns c = search needs
 
-add-x : tie.Need-add-x Inv-loop μ-loop
-add-x c = search needs
+add-i : tie.Need-add-i Inv-loop μ-loop
+add-i c = search needs
 
 loop-less : tie.Need-loop-less Inv-loop μ-loop
 loop-less c = search needs
@@ -44,11 +41,10 @@ has-shared-event-spec =
     Inv-loop
     μ-loop
     loop-holds
-    has-requires
     element-copy-out-size
     size-requires
     returns
-    add-x
+    add-i
     loop-less
     loop-again
     returns-2)

@@ -7,13 +7,10 @@ use Rattle.expected.proofs.held_back_run.Statement.{statement}
 use Rattle.expected.proofs.held_back_run.Tie as tie
 
 abbrev Inv-loop : tie.InvT-loop
-Inv-loop file held list₀ t r done₀ kept₀ i₀ list done kept i = length list ≡ length list₀
+Inv-loop file held list₀ r done₀ kept₀ i₀ list done kept i = length list ≡ length list₀
 
 abbrev μ-loop : tie.MeasureT-loop
-μ-loop file held list₀ t r done₀ kept₀ i₀ list done kept i = 8 - i
-
-small-trace-requires : tie.Need-small-trace-requires Inv-loop μ-loop
-small-trace-requires c κs = search needs
+μ-loop file held list₀ r done₀ kept₀ i₀ list done kept i = 8 - i
 
 rules-of-requires : tie.Need-rules-of-requires Inv-loop μ-loop
 rules-of-requires c κs = search needs
@@ -60,7 +57,6 @@ held-back-run-spec =
     (tie.spec
     Inv-loop
     μ-loop
-    small-trace-requires
     rules-of-requires
     loop-holds
     next-by-rule-requires

@@ -10,9 +10,6 @@ Inv-loop file list r done₀ i₀ i-end done i = Unit {0}
 abbrev μ-loop : tie.MeasureT-loop
 μ-loop file list r done₀ i₀ i-end done i = i-end - i
 
-small-trace-requires : tie.Need-small-trace-requires Inv-loop μ-loop
-small-trace-requires c κs = search needs
-
 rules-of-requires : tie.Need-rules-of-requires Inv-loop μ-loop
 rules-of-requires c κs = search needs
 
@@ -55,7 +52,6 @@ is-complete-run-spec =
     (tie.spec
     Inv-loop
     μ-loop
-    small-trace-requires
     rules-of-requires
     loop-holds
     mul-operation

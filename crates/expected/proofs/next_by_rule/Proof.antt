@@ -5,10 +5,13 @@ use Rattle.expected.proofs.next_by_rule.Statement.{statement}
 use Rattle.expected.proofs.next_by_rule.Tie as tie
 
 abbrev Inv-loop : tie.InvT-loop
-Inv-loop t r done held q₀ q = Unit {0}
+Inv-loop file r done held q₀ q-end q = Unit {0}
 
 abbrev μ-loop : tie.MeasureT-loop
-μ-loop t r done held q₀ q = 16 - q
+μ-loop file r done held q₀ q-end q = q-end - q
+
+workers-requires : tie.Need-workers-requires Inv-loop μ-loop
+workers-requires c κs = search needs
 
 loop-holds : tie.Need-loop-holds Inv-loop μ-loop
 loop-holds c = search needs
@@ -40,6 +43,7 @@ next-by-rule-spec =
     (tie.spec
     Inv-loop
     μ-loop
+    workers-requires
     loop-holds
     next-of-requires
     may-follow-requires

@@ -5,19 +5,19 @@ use Rattle.expected.proofs.next_of.Statement.{statement}
 use Rattle.expected.proofs.next_of.Tie as tie
 
 abbrev Inv-loop : tie.InvT-loop
-Inv-loop done q t x₀ x = Unit {0}
+Inv-loop file done q x₀ x-end x = Unit {0}
 
 abbrev μ-loop : tie.MeasureT-loop
-μ-loop done q t x₀ x = 8 - x
+μ-loop file done q x₀ x-end x = x-end - x
+
+operations-requires : tie.Need-operations-requires Inv-loop μ-loop
+operations-requires c κs = search needs
 
 loop-holds : tie.Need-loop-holds Inv-loop μ-loop
 loop-holds c = search needs
 
-element-copy-out-if2 : tie.Need-element-copy-out-if2 Inv-loop μ-loop
-element-copy-out-if2 c = search needs
-
-cast-if2 : tie.Need-cast-if2 Inv-loop μ-loop
-cast-if2 c = search needs
+worker-of-requires : tie.Need-worker-of-requires Inv-loop μ-loop
+worker-of-requires c κs = search needs
 
 has-requires : tie.Need-has-requires Inv-loop μ-loop
 has-requires c κs = search needs
@@ -43,9 +43,9 @@ next-of-spec =
     (tie.spec
     Inv-loop
     μ-loop
+    operations-requires
     loop-holds
-    element-copy-out-if2
-    cast-if2
+    worker-of-requires
     has-requires
     returns
     add-x

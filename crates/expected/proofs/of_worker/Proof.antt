@@ -5,10 +5,10 @@ use Rattle.expected.proofs.of_worker.Statement.{statement}
 use Rattle.expected.proofs.of_worker.Tie as tie
 
 abbrev Inv-loop : tie.InvT-loop
-Inv-loop set q t n₀ x₀ n x = Unit {0}
+Inv-loop file set q n₀ x₀ n x = Unit {0}
 
 abbrev μ-loop : tie.MeasureT-loop
-μ-loop set q t n₀ x₀ n x = 8 - x
+μ-loop file set q n₀ x₀ n x = 8 - x
 
 loop-holds : tie.Need-loop-holds Inv-loop μ-loop
 loop-holds c = search needs
@@ -16,11 +16,8 @@ loop-holds c = search needs
 has-requires : tie.Need-has-requires Inv-loop μ-loop
 has-requires c κs = search needs
 
-element-copy-out-if3 : tie.Need-element-copy-out-if3 Inv-loop μ-loop
-element-copy-out-if3 c = search needs
-
-cast-if3 : tie.Need-cast-if3 Inv-loop μ-loop
-cast-if3 c = search needs
+worker-of-requires : tie.Need-worker-of-requires Inv-loop μ-loop
+worker-of-requires c κs = search needs
 
 add-n : tie.Need-add-n Inv-loop μ-loop
 add-n c = search needs
@@ -45,8 +42,7 @@ of-worker-spec =
     μ-loop
     loop-holds
     has-requires
-    element-copy-out-if3
-    cast-if3
+    worker-of-requires
     add-n
     add-x
     loop-less

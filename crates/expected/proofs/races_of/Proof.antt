@@ -7,14 +7,10 @@ use Rattle.expected.proofs.races_of.Statement.{statement}
 use Rattle.expected.proofs.races_of.Tie as tie
 
 abbrev Inv-loop : tie.InvT-loop
-Inv-loop file orders lower₀ higher₀ t n₀ i₀ lower higher n i =
-    (length lower ≡ length lower₀) × (length higher ≡ length higher₀)
+Inv-loop file orders lower₀ higher₀ n₀ i₀ lower higher n i = (length lower ≡ length lower₀) × (length higher ≡ length higher₀)
 
 abbrev μ-loop : tie.MeasureT-loop
-μ-loop file orders lower₀ higher₀ t n₀ i₀ lower higher n i = 64 - i
-
-small-trace-requires : tie.Need-small-trace-requires Inv-loop μ-loop
-small-trace-requires c κs = search needs
+μ-loop file orders lower₀ higher₀ n₀ i₀ lower higher n i = 64 - i
 
 loop-holds : tie.Need-loop-holds Inv-loop μ-loop
 loop-holds c = search needs
@@ -49,7 +45,6 @@ races-of-spec =
     (tie.spec
     Inv-loop
     μ-loop
-    small-trace-requires
     loop-holds
     is-race-requires
     put-race-requires

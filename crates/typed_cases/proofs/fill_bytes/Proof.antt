@@ -7,10 +7,10 @@ use Rattle.typed_cases.proofs.fill_bytes.Statement.{statement}
 use Rattle.typed_cases.proofs.fill_bytes.Tie as tie
 
 abbrev Inv-loop : tie.InvT-loop
-Inv-loop memory₀ x i₀ i-end memory i = length memory ≡ length memory₀
+Inv-loop memory₀ i₀ i-end memory i = length memory ≡ length memory₀
 
 abbrev μ-loop : tie.MeasureT-loop
-μ-loop memory₀ x i₀ i-end memory i = i-end - i
+μ-loop memory₀ i₀ i-end memory i = i-end - i
 
 loop-holds : tie.Need-loop-holds Inv-loop μ-loop
 loop-holds c = search needs
