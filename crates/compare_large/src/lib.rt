@@ -4,14 +4,14 @@ use outcomes::Answer;
 use outcomes::SEEN;
 
 // Space for a list of races, a run and a tidy file.
-const LIST: usize = 4096;
+const LIST: usize = 20000;
 
 const RUN: usize = 1030;
 
 const OUTPUT: usize = 12400;
 
-// How many pairs are compared.
-const PAIRS: usize = 10;
+// How many pairs of each kind are compared.
+const PAIRS: usize = 8;
 
 // Reading the file
 
@@ -142,17 +142,11 @@ fn runs_call(seen: &mut [u64; SEEN], file: &[u8], n: usize, a: usize, b: usize, 
 }
 
 fn count_order(seen: &mut [u64; SEEN], file: &[u8], order: u32, a: usize, b: usize) {
-    if order == 0 {
-        let steps = plain_file::operations(file) as u64;
-        outcomes::count(seen, outcomes::UNORDERED, 1);
-        outcomes::count(seen, outcomes::STEPS, steps);
-        outcomes::count(seen, outcomes::STEPS, steps);
-        return;
-    }
-    outcomes::count(seen, outcomes::ORDERED, 1);
-    if plain_file::worker_of(file, a) != plain_file::worker_of(file, b) {
-        outcomes::count(seen, outcomes::ORDERED_APART, 1);
-    }
+    let apart = plain_file::worker_of(file, a) != plain_file::worker_of(file, b);
+    let steps = plain_file::operations(file) as u64;
+    outcomes::note_order(seen, order, apart, plain_file::conflict(file, a, b));
+    outcomes::count(seen, outcomes::STEPS, if order == 0 { steps } else { 0 });
+    outcomes::count(seen, outcomes::STEPS, if order == 0 { steps } else { 0 });
 }
 
 // The order of a pair, and its two runs.
@@ -176,6 +170,19 @@ fn pair_call(
     runs_call(seen, file, n, a, b, order);
 }
 
+// The first operation from b on, going round, that is in conflict with a; b where there is none.
+fn partner(file: &[u8], a: usize, b: usize) -> usize {
+    let n = plain_file::operations(file);
+    for i in 0..n {
+        let x = (b % 1024 + i) % n;
+        if plain_file::conflict(file, a, x) {
+            return x;
+        }
+    }
+    b
+}
+
+// Pairs of any operations, and pairs in conflict.
 fn pair_calls(
     seen: &mut [u64; SEEN],
     file: &[u8],
@@ -190,51 +197,70 @@ fn pair_calls(
         let a = random_files::below(state, n) as usize;
         let b = random_files::below(other_state, n) as usize;
         pair_call(seen, file, table, rank, a, b);
+        pair_call(seen, file, table, rank, a, partner(file, a, b));
         state = random_files::next(other_state);
     }
 }
 
 // Races
 
-fn races_due(table: Answer, races: usize) -> Answer {
-    if LIST < races {
+// What is due from the race list in two lists of so many places, where `table` is due from the order table.
+fn races_due(table: Answer, races: usize, room: usize) -> Answer {
+    if room < races {
         return outcomes::refusal(16, outcomes::number(races));
     }
     let counts = table.values;
     outcomes::success([counts[0], counts[1], outcomes::number(races), 0])
 }
 
-// The race list, in lists that just fit, or that are too short where there are very many races.
+// The race list in two lists of so many places. The table has `size` numbers, and the races that are due are given.
 fn race_call(
     seen: &mut [u64; SEEN],
     file: &[u8],
-    due_table: Answer,
+    due: Answer,
     size: usize,
     table: &[u16; TABLE],
-    rank: &[usize; 1024],
+    room: usize,
+    lower_due: &[u16; LIST],
+    higher_due: &[u16; LIST],
 ) {
-    let mut lower_due = [0u16; LIST];
-    let mut higher_due = [0u16; LIST];
     let mut lower = [0u16; LIST];
     let mut higher = [0u16; LIST];
     let mut rows = [0u16; TABLE];
     outcomes::fill(&mut rows);
     outcomes::fill(&mut lower);
     outcomes::fill(&mut higher);
-    let races = large_rows::races_by_rows(file, table, rank, &mut lower_due, &mut higher_due);
-    let due = races_due(due_table, races);
-    let written = if due.number == 0 { races } else { 0 };
-    let room = if due.number == 0 { races } else { LIST };
     let sizes = [size, room, room];
     let answer = answers::races_answer(file, &mut rows, &mut lower, &mut higher, sizes);
-    let listed = outcomes::holds(&lower, &lower_due, written)
-        && outcomes::holds(&higher, &higher_due, written);
+    let written = outcomes::value(due, 2);
+    let listed = outcomes::holds(&lower, lower_due, written)
+        && outcomes::holds(&higher, higher_due, written);
     compare(
         seen,
         answer,
         due,
         listed && outcomes::holds(&rows, table, size),
     );
+}
+
+// Lists that just fit, or that are as long as can be where there are very many races, and lists that are too short.
+fn race_calls(
+    seen: &mut [u64; SEEN],
+    file: &[u8],
+    reading: Answer,
+    size: usize,
+    table: &[u16; TABLE],
+    rank: &[usize; 1024],
+) {
+    let mut lower = [0u16; LIST];
+    let mut higher = [0u16; LIST];
+    let races = large_rows::races_by_rows(file, table, rank, &mut lower, &mut higher);
+    let room = if races < LIST { races } else { LIST };
+    let short = outcomes::less_one(room);
+    let due = races_due(reading, races, room);
+    race_call(seen, file, due, size, table, room, &lower, &higher);
+    let due_short = races_due(reading, races, short);
+    race_call(seen, file, due_short, size, table, short, &lower, &higher);
     outcomes::count(seen, outcomes::RACES, races as u64);
 }
 
@@ -277,7 +303,7 @@ fn accepted_calls(seen: &mut [u64; SEEN], file: &[u8], reading: Answer, seed: u6
     large_rows::compare_rows(seen, file, &table, seed);
     large_rows::fill_ranks(file, &mut rank);
     pair_calls(seen, file, &table, &rank, random_files::next(seed));
-    race_call(seen, file, reading, size, &table, &rank);
+    race_calls(seen, file, reading, size, &table, &rank);
     tidy_call(seen, file, reading);
 }
 

@@ -19,19 +19,14 @@ fn order_due(judgement: Judgement, orders: &[u32; 64], a: usize, b: usize) -> An
 }
 
 fn count_order(seen: &mut [u64; SEEN], file: &[u8], order: Answer, a: usize, b: usize) {
-    if order.number != 0 {
-        return;
-    }
-    if order.values[0] == 0 {
-        outcomes::count(seen, outcomes::UNORDERED, 1);
-        return;
-    }
-    outcomes::count(seen, outcomes::ORDERED, 1);
-    if plain_file::worker_of(file, a) != plain_file::worker_of(file, b) {
-        outcomes::count(seen, outcomes::ORDERED_APART, 1);
-        if plain_file::conflict(file, a, b) {
-            outcomes::count(seen, outcomes::CONFLICTS_ORDERED, 1);
-        }
+    let apart = plain_file::worker_of(file, a) != plain_file::worker_of(file, b);
+    if order.number == 0 {
+        outcomes::note_order(
+            seen,
+            order.values[0],
+            apart,
+            plain_file::conflict(file, a, b),
+        );
     }
 }
 

@@ -2,6 +2,7 @@
 use large_rows::TABLE;
 use outcomes::SEEN;
 
+// Space for a list of races, a run and a tidy file.
 const LIST: usize = 4096;
 
 const RUN: usize = 1030;

@@ -217,7 +217,7 @@ fn typed_part(seen: &mut [u64; SEEN]) {
 const CASES: usize = 40000;
 
 // How many large traces.
-const LARGE: usize = 300;
+const LARGE: usize = 1000;
 
 fn main() {
     let mut typed = [0u64; SEEN];

@@ -138,32 +138,9 @@ pub fn reading_due(judgement: Judgement) -> Answer {
 
 // Races
 
-fn put(list: &mut [u16], i: usize, x: usize) {
-    if i < list.len() {
-        list[i] = (x % 8) as u16;
-    }
-}
-
 fn is_race(file: &[u8], orders: &[u32; 64], a: usize, b: usize) -> bool {
     let different = a < b && b < plain_file::operations(file);
     different && orders[a % 8 * 8 + b % 8] == 0 && plain_file::conflict(file, a, b)
-}
-
-// Puts a pair at place n of the two lists, if it is a race; how many there are then.
-fn put_race(
-    race: bool,
-    a: usize,
-    b: usize,
-    n: usize,
-    lower: &mut [u16],
-    higher: &mut [u16],
-) -> usize {
-    if race {
-        put(lower, n, a);
-        put(higher, n, b);
-        return n % 64 + 1;
-    }
-    n
 }
 
 // The races of an accepted file, ascending by lower, then higher operation; how many there are.
@@ -171,7 +148,7 @@ pub fn races_of(file: &[u8], orders: &[u32; 64], lower: &mut [u16], higher: &mut
     let mut n: usize = 0;
     for i in 0..64 {
         let race = is_race(file, orders, i / 8, i % 8);
-        n = put_race(race, i / 8, i % 8, n, lower, higher);
+        n = outcomes::put_race(race, i / 8, i % 8, n, lower, higher);
     }
     n
 }
@@ -214,7 +191,7 @@ pub fn held_back_run(file: &[u8], held: usize, list: &mut [u16]) -> usize {
         if x == 8 {
             return i;
         }
-        put(list, i, x);
+        outcomes::put(list, i, x);
         done = every_run::with(done, x);
     }
     8

@@ -6,7 +6,7 @@ struct Style {
     workers: u32,
     events: u32,
     first_event: u32,
-    spread: bool,
+    way: u32,
     cells: u32,
     first_cell: u32,
     posts: u32,
@@ -40,7 +40,7 @@ fn style_of(seed: u64) -> Style {
         workers: one_of([1, 2, 3, 4, 7, 15, 16, 16], seed),
         events: one_of([1, 2, 5, 40, 100, 200, 256, 256], second),
         first_event: one_of([0, 0, 1, 31, 60, 63, 127, 190], third),
-        spread: below(third / 64, 2) == 0,
+        way: below(third / 64, 3),
         cells: one_of([1, 8, 40, 100, 400, 1000, 1000, 4000], fourth),
         first_cell: one_of(
             [
@@ -61,15 +61,6 @@ fn style_of(seed: u64) -> Style {
     }
 }
 
-// An event, of those that the trace names: spread over all words, or one after the other.
-fn event_of(style: Style, seed: u64) -> u32 {
-    let drawn = below(seed, style.events as u64);
-    if style.spread {
-        return drawn * 101 % 256;
-    }
-    (drawn + style.first_event % 256) % 256
-}
-
 // The events of the last sixteen Posts, and how many there were.
 struct Posted {
     count: u32,
@@ -81,6 +72,19 @@ fn with_post(posted: Posted, event: u32) -> Posted {
     more.events[posted.count as usize % 16] = event;
     more.count = posted.count % 65536 + 1;
     more
+}
+
+// An event, of those that the trace names: spread over all words, one of neighbours, or one after the other in turn, so
+// that most have a single Post.
+fn event_of(style: Style, posted: Posted, seed: u64) -> u32 {
+    let drawn = below(seed, style.events as u64);
+    if style.way == 0 {
+        return drawn * 101 % 256;
+    }
+    if style.way == 1 {
+        return (drawn + style.first_event % 256) % 256;
+    }
+    (posted.count % 256 + style.first_event % 256) % 256
 }
 
 // The event of one of the last Posts.
@@ -111,14 +115,14 @@ fn put_random(file: &mut [u8], k: usize, style: Style, posted: Posted, seed: u64
     let worker = below(seed, style.workers as u64);
     let drawn = below(second, 16);
     if drawn < style.posts {
-        let event = event_of(style, third);
+        let event = event_of(style, posted, third);
         test_files::put_operation(file, k, worker, 1, event, 0);
         return with_post(posted, event);
     }
     if drawn < style.posts % 16 + style.waits % 16 && (0 < posted.count || style.stuck) {
         let any = style.stuck && below(third / 64, 64) == 0;
         let event = if any {
-            event_of(style, third)
+            event_of(style, posted, third)
         } else {
             posted_event(posted, third)
         };

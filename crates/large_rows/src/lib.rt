@@ -74,31 +74,8 @@ pub fn order_by_rows(
 
 // The races
 
-fn put(list: &mut [u16], i: usize, x: usize) {
-    if i < list.len() {
-        list[i] = (x % 1024) as u16;
-    }
-}
-
 fn is_race(file: &[u8], table: &[u16; TABLE], rank: &[usize; 1024], a: usize, b: usize) -> bool {
     plain_file::conflict(file, a, b) && order_by_rows(file, table, rank, a, b) == 0
-}
-
-// Puts a pair at place n of the two lists, if it is a race; how many there are then.
-fn put_race(
-    race: bool,
-    a: usize,
-    b: usize,
-    n: usize,
-    lower: &mut [u16],
-    higher: &mut [u16],
-) -> usize {
-    if race {
-        put(lower, n, a);
-        put(higher, n, b);
-        return n % 1000000 + 1;
-    }
-    n
 }
 
 // Puts the races of a with higher operations into the two lists, from place n on; how many there are then.
@@ -114,7 +91,7 @@ fn put_races_of(
     let mut count = n;
     for b in a % 1024 + 1..plain_file::operations(file) {
         let race = is_race(file, table, rank, a, b);
-        count = put_race(race, a, b, count, lower, higher);
+        count = outcomes::put_race(race, a, b, count, lower, higher);
     }
     count
 }

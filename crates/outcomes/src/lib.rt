@@ -127,6 +127,21 @@ pub fn note_file(seen: &mut [u64; SEEN], number: u8) {
     expect(seen, known);
 }
 
+// Counts a pair of operations with its order, and whether they are of different workers and in conflict.
+pub fn note_order(seen: &mut [u64; SEEN], order: u32, apart: bool, conflict: bool) {
+    if order == 0 {
+        add(seen, UNORDERED, 1);
+        return;
+    }
+    add(seen, ORDERED, 1);
+    add(seen, ORDERED_APART, if apart { 1 } else { 0 });
+    add(
+        seen,
+        CONFLICTS_ORDERED,
+        if apart && conflict { 1 } else { 0 },
+    );
+}
+
 // Lent memory
 
 // What lent memory holds before a call; no call writes such numbers.
@@ -192,6 +207,31 @@ pub fn starts_with(memory: &[u16], due: &[u16]) -> bool {
         }
     }
     true
+}
+
+// Lists of races
+
+pub fn put(list: &mut [u16], i: usize, x: usize) {
+    if i < list.len() {
+        list[i] = (x % 65536) as u16;
+    }
+}
+
+// Puts a pair at place n of the two lists, if it is a race; how many there are then.
+pub fn put_race(
+    race: bool,
+    a: usize,
+    b: usize,
+    n: usize,
+    lower: &mut [u16],
+    higher: &mut [u16],
+) -> usize {
+    if race {
+        put(lower, n, a);
+        put(higher, n, b);
+        return n % 1000000 + 1;
+    }
+    n
 }
 
 // Numbers and sizes

@@ -8,7 +8,7 @@ abbrev Inv-loop : tie.InvT-loop
 Inv-loop seen₀ file table rank seed n state₀ i₀ seen state i = Unit {0}
 
 abbrev μ-loop : tie.MeasureT-loop
-μ-loop seen₀ file table rank seed n state₀ i₀ seen state i = 10 - i
+μ-loop seen₀ file table rank seed n state₀ i₀ seen state i = 8 - i
 
 operations-requires : tie.Need-operations-requires Inv-loop μ-loop
 operations-requires c κs = search needs
@@ -33,6 +33,12 @@ cast-b c = search needs
 
 pair-call-requires : tie.Need-pair-call-requires Inv-loop μ-loop
 pair-call-requires c κs = search needs
+
+partner-requires : tie.Need-partner-requires Inv-loop μ-loop
+partner-requires c κs = search needs
+
+pair-call-requires-2 : tie.Need-pair-call-requires-2 Inv-loop μ-loop
+pair-call-requires-2 c κs = search needs
 
 next-requires-2 : tie.Need-next-requires-2 Inv-loop μ-loop
 next-requires-2 c κs = search needs
@@ -63,6 +69,8 @@ pair-calls-spec =
     below-requires-2
     cast-b
     pair-call-requires
+    partner-requires
+    pair-call-requires-2
     next-requires-2
     add-i
     loop-less
