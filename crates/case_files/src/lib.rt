@@ -32,10 +32,10 @@ fn new_file(file: &mut [u8; FILE], workers: u32, operations: u32) -> usize {
 // What the line says of the file; how many bytes are lent then.
 pub fn change_file(file: &mut [u8; FILE], size: usize, line: Line) -> usize {
     let row = line.number;
-    if line.word == case_lines::FILE {
+    if line.word == case_words::FILE {
         return new_file(file, row[0], row[1]);
     }
-    if line.word == case_lines::OP {
+    if line.word == case_words::OP {
         test_files::put_operation(
             file,
             basics::wide_index(row[0]),
@@ -46,15 +46,15 @@ pub fn change_file(file: &mut [u8; FILE], size: usize, line: Line) -> usize {
         );
         return size;
     }
-    if line.word == case_lines::MANY {
+    if line.word == case_words::MANY {
         put_many(file, basics::wide_index(row[0]), row);
         return size;
     }
-    if line.word == case_lines::BYTE {
+    if line.word == case_words::BYTE {
         test_files::put_byte(file, basics::wide_index(row[0]), row[1]);
         return size;
     }
-    if line.word == case_lines::SIZE {
+    if line.word == case_words::SIZE {
         return basics::wide_index(row[0]);
     }
     size

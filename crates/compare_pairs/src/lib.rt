@@ -1,15 +1,16 @@
 // The pair order, the two runs and the beginning of a run, compared with what all runs say.
-use expected::Judgement;
 use outcomes::Answer;
 use outcomes::SEEN;
 
 // The order of a pair
 
-fn order_due(judgement: Judgement, orders: &[u32; 64], a: usize, b: usize) -> Answer {
-    if judgement.number != 0 {
-        return outcomes::refusal(judgement.number, judgement.place);
+// What is due from the pair order, where `reading` is due from reading the file.
+fn order_due(reading: Answer, orders: &[u32; 64], a: usize, b: usize) -> Answer {
+    let count = outcomes::value(reading, 1);
+    if reading.number != 0 {
+        return reading;
     }
-    if judgement.count <= a || judgement.count <= b {
+    if count <= a || count <= b {
         return outcomes::refusal(12, 0);
     }
     if a == b {
@@ -35,7 +36,7 @@ fn count_order(seen: &mut [u64; SEEN], file: &[u8], order: Answer, a: usize, b: 
 // Is x among the numbers from `from` on, and before `to`?
 fn appears(list: &[u16], from: usize, to: usize, x: usize) -> bool {
     for i in from..to {
-        if i < list.len() && outcomes::operation(list[i]) == x {
+        if i < list.len() && test_memory::operation(list[i]) == x {
             return true;
         }
     }
@@ -46,7 +47,7 @@ fn appears(list: &[u16], from: usize, to: usize, x: usize) -> bool {
 // and not before it; else 0.
 fn part_due(list: &[u16], chosen: usize, other: usize) -> usize {
     for i in 0..list.len() {
-        if outcomes::operation(list[i]) == chosen {
+        if test_memory::operation(list[i]) == chosen {
             let before = appears(list, 0, i, other);
             let after = appears(list, i, list.len(), other);
             return if chosen != other && after && !before {
@@ -62,22 +63,22 @@ fn part_due(list: &[u16], chosen: usize, other: usize) -> usize {
 // Which list and how many of its numbers, where such are the lengths of the two lists' parts.
 fn beginning_due(of_first: usize, of_second: usize) -> Answer {
     if 0 < of_first || of_second == 0 {
-        return outcomes::success([0, outcomes::number(of_first), 0, 0]);
+        return outcomes::success([0, test_memory::number(of_first), 0, 0]);
     }
-    outcomes::success([1, outcomes::number(of_second), 0, 0])
+    outcomes::success([1, test_memory::number(of_second), 0, 0])
 }
 
 // Has the part so many numbers, and are they those that the list starts with?
 fn is_part_of(part: &[u16], list: &[u16], length: usize) -> bool {
-    part.len() == length && outcomes::starts_with(list, part)
+    part.len() == length && test_memory::starts_with(list, part)
 }
 
 // Is the beginning the part of the first list, failing that of the second, failing both the empty part?
 fn beginning_holds<'a>(first: &'a [u16], second: &'a [u16], chosen: usize, other: usize) -> bool {
     let of_first = part_due(first, chosen, other);
     let of_second = part_due(second, chosen, other);
-    let x = outcomes::number(chosen);
-    let y = outcomes::number(other);
+    let x = test_memory::number(chosen);
+    let y = test_memory::number(other);
     let answer = answers::beginning_answer(first, second, x, y);
     let part = beginning::beginning(first, second, x, y);
     if !outcomes::same(answer, beginning_due(of_first, of_second)) {
@@ -112,7 +113,7 @@ fn run_holds(file: &[u8], n: usize, a: usize, b: usize, buffer: &[u16]) -> bool 
     if n <= buffer.len() {
         let whole = &buffer[0..n];
         let complete = expected::is_complete_run(file, whole) && 0 < part_due(whole, a, b);
-        return complete && outcomes::holds(buffer, &run, length);
+        return complete && test_memory::holds(buffer, &run, length);
     }
     false
 }
@@ -140,7 +141,7 @@ fn runs_due(order: Answer, n: usize, first_size: usize, second_size: usize) -> A
     if first_size < n || second_size < n {
         return outcomes::refusal(15, 0);
     }
-    outcomes::success([outcomes::number(n), 0, 0, 0])
+    outcomes::success([test_memory::number(n), 0, 0, 0])
 }
 
 // Are the buffers as is due after the two runs of n operations, which were refused by that number, or by none?
@@ -154,7 +155,7 @@ fn buffers_hold<'a>(
     second: &'a [u16],
 ) -> bool {
     if refused != 0 {
-        return outcomes::untouched(first) && outcomes::untouched(second);
+        return test_memory::untouched(first) && test_memory::untouched(second);
     }
     run_holds(file, n, a, b, first)
         && run_holds(file, n, b, a, second)
@@ -172,14 +173,14 @@ fn runs_call(
 ) {
     let mut first = [0u16; 12];
     let mut second = [0u16; 12];
-    outcomes::fill(&mut first);
-    outcomes::fill(&mut second);
-    let x = outcomes::number(a);
-    let y = outcomes::number(b);
+    test_memory::fill(&mut first);
+    test_memory::fill(&mut second);
+    let x = test_memory::number(a);
+    let y = test_memory::number(b);
     let answer = answers::runs_answer(file, x, y, &mut first, sizes[0], &mut second, sizes[1]);
     let due = runs_due(order, n, sizes[0], sizes[1]);
     let memory = buffers_hold(file, n, a, b, due.number, &first, &second);
-    outcomes::note(seen, due.number, outcomes::same(answer, due) && memory);
+    outcomes::compare(seen, answer, due, memory);
     if due.number == 0 {
         outcomes::count(seen, outcomes::BEGINNINGS, 2);
     }
@@ -191,45 +192,57 @@ fn room(n: usize, way: usize) -> usize {
         return n;
     }
     if way % 3 == 1 {
-        return outcomes::more(n, 3);
+        return test_memory::more(n, 3);
     }
-    outcomes::less_one(n)
+    test_memory::less_one(n)
 }
 
 // The pair order and the two runs of a and b; `way` decides on the sizes of the buffers.
 fn pair_call(
     seen: &mut [u64; SEEN],
     file: &[u8],
-    judgement: Judgement,
-    orders: &[u32; 64],
+    n: usize,
+    due: Answer,
     a: usize,
     b: usize,
     way: usize,
 ) {
-    let n = judgement.count;
-    let due = order_due(judgement, orders, a, b);
-    let answer = answers::order_answer(file, outcomes::number(a), outcomes::number(b));
-    outcomes::note(seen, due.number, outcomes::same(answer, due));
+    let answer = answers::order_answer(file, test_memory::number(a), test_memory::number(b));
+    outcomes::compare(seen, answer, due, true);
     count_order(seen, file, due, a, b);
     runs_call(seen, file, n, a, b, due, [room(n, way), room(n, way / 3)]);
 }
 
-// Each pair of numbers up to the operation count; of a refused file only of 0 and 1.
+// The buffers are for as many operations as the trace has; of a refused file for 8.
+fn room_of(reading: Answer) -> usize {
+    if reading.number != 0 {
+        return 8;
+    }
+    outcomes::value(reading, 1)
+}
+
+// The highest number that is tried: the operation count; of a refused file 1.
+fn highest(reading: Answer) -> usize {
+    if reading.number != 0 {
+        return 1;
+    }
+    outcomes::value(reading, 1)
+}
+
+// Each pair of numbers up to the highest.
 pub fn pair_calls(
     seen: &mut [u64; SEEN],
     file: &[u8],
-    judgement: Judgement,
+    reading: Answer,
     orders: &[u32; 64],
     way: usize,
 ) {
-    let most = if judgement.number == 0 {
-        judgement.count
-    } else {
-        1
-    };
+    let most = highest(reading);
+    let n = room_of(reading);
     for i in 0..81 {
         if i / 9 <= most && i % 9 <= most {
-            pair_call(seen, file, judgement, orders, i / 9, i % 9, way % 9 + i);
+            let due = order_due(reading, orders, i / 9, i % 9);
+            pair_call(seen, file, n, due, i / 9, i % 9, way % 9 + i);
         }
     }
 }

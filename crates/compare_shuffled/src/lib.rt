@@ -14,7 +14,7 @@ const PAIRS: usize = 6;
 
 // The number of operation x in the other file.
 fn new_number(renumbered: &[u16; 1024], x: u16) -> u16 {
-    renumbered[outcomes::operation(x) % 1024]
+    renumbered[test_memory::operation(x) % 1024]
 }
 
 // The order tables
@@ -46,12 +46,12 @@ fn rows_agree(
 ) -> bool {
     let p = plain_file::workers(file);
     for k in 0..plain_file::operations(file) {
-        let to = outcomes::operation(renumbered[k % 1024]);
+        let to = test_memory::operation(renumbered[k % 1024]);
         if !row_agrees(
             table,
             other,
-            outcomes::product(k, p),
-            outcomes::product(to, p),
+            test_memory::product(k, p),
+            test_memory::product(to, p),
             p,
         ) {
             return false;
@@ -223,10 +223,10 @@ fn compare_tidy(seen: &mut [u64; SEEN], file: &[u8], other_file: &[u8]) {
     let size = file.len();
     let mut tidy = [0u8; OUTPUT];
     let mut other = [0u8; OUTPUT];
-    outcomes::fill_bytes(&mut other);
+    test_memory::fill_bytes(&mut other);
     let answer = answers::canonical_answer(file, &mut tidy, OUTPUT);
     let other_answer = answers::canonical_answer(other_file, &mut other, OUTPUT);
-    let agree = outcomes::holds_bytes(&other, &tidy, size);
+    let agree = test_memory::holds_bytes(&other, &tidy, size);
     outcomes::note(
         seen,
         answer.number,
@@ -243,7 +243,8 @@ pub fn compare_orders_of(
     seed: u64,
 ) {
     let answer = answers::accept_answer(file);
-    let other = compare_large::reading_call(seen, other_file);
+    let other = step_by_step::reading_due(other_file);
+    outcomes::compare(seen, answers::accept_answer(other_file), other, true);
     outcomes::count(seen, outcomes::SHUFFLED, 1);
     outcomes::expect(seen, answer.number == other.number);
     if answer.number != 0 {

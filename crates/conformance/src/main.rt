@@ -9,123 +9,6 @@ use outcomes::MISMATCHES;
 use outcomes::NUMBERS;
 use outcomes::SEEN;
 
-// What is tried
-
-// The largest small file, with some bytes more.
-const SIZE: usize = 128;
-
-fn judge(seen: &mut [u64; SEEN], file: &[u8], size: usize, way: usize) {
-    if size <= file.len() {
-        comparison::compare_calls(seen, &file[0..size], way);
-        return;
-    }
-    outcomes::expect(seen, false);
-}
-
-fn trace_case(seen: &mut [u64; SEEN], seed: u64, i: usize) {
-    let mut file = [0u8; SIZE];
-    let size = random_files::random_trace(&mut file, seed);
-    judge(seen, &file, size, i);
-}
-
-fn damaged_case(seen: &mut [u64; SEEN], seed: u64, i: usize) {
-    let mut file = [0u8; SIZE];
-    let size = random_files::random_trace(&mut file, seed);
-    let left = random_files::damaged(&mut file, size, random_files::next(seed / 3 + 1));
-    judge(seen, &file, left, i);
-}
-
-fn beginning_of<'a>(
-    seen: &mut [u64; SEEN],
-    first: &'a [u16],
-    first_length: usize,
-    second: &'a [u16],
-    second_length: usize,
-    seed: u64,
-) {
-    let chosen = random_files::small_number(seed) as usize;
-    let other = random_files::small_number(random_files::next(seed)) as usize;
-    if first_length <= first.len() && second_length <= second.len() {
-        let list = &first[0..first_length];
-        let failing = &second[0..second_length];
-        compare_pairs::beginning_call(seen, list, failing, chosen, other);
-    }
-}
-
-fn beginning_case(seen: &mut [u64; SEEN], seed: u64) {
-    let mut first = [0u16; 6];
-    let mut second = [0u16; 6];
-    let next_seed = random_files::next(seed);
-    let last_seed = random_files::next(next_seed / 2 + 1);
-    random_files::fill_list(&mut first, next_seed);
-    random_files::fill_list(&mut second, last_seed);
-    let first_length = random_files::below(seed, 7) as usize;
-    let second_length = random_files::below(next_seed, 7) as usize;
-    beginning_of(
-        seen,
-        &first,
-        first_length,
-        &second,
-        second_length,
-        random_files::next(last_seed / 3 + 1),
-    );
-}
-
-// Beginnings of lists of up to six numbers, which may repeat.
-fn random_lists(seen: &mut [u64; SEEN], count: usize) {
-    let mut seed: u64 = 7;
-    for i in 0..count {
-        seed = random_files::next(seed);
-        beginning_case(seen, seed);
-    }
-}
-
-// Random files, all of which read as a trace.
-fn random_traces(seen: &mut [u64; SEEN], count: usize) {
-    let mut seed: u64 = 1;
-    for i in 0..count {
-        seed = random_files::next(seed);
-        trace_case(seen, random_files::next(seed / 2 + 1), i);
-    }
-}
-
-// Files of random traces with bytes replaced, cut off or added.
-fn damaged_files(seen: &mut [u64; SEEN], count: usize) {
-    let mut seed: u64 = 1000003;
-    for i in 0..count {
-        seed = random_files::next(seed);
-        damaged_case(seen, random_files::next(seed / 2 + 1), i);
-    }
-}
-
-// Large traces, each in two file orders.
-
-const LARGE_SIZE: usize = 12300;
-
-fn large_case(seen: &mut [u64; SEEN], seed: u64) {
-    let mut file = [0u8; LARGE_SIZE];
-    let mut other = [0u8; LARGE_SIZE];
-    let mut renumbered = [0u16; 1024];
-    let size = large_files::large_trace(&mut file, seed);
-    let second = random_files::next(seed / 5 + 1);
-    large_files::shuffle(&file, &mut other, &mut renumbered, second);
-    if size <= LARGE_SIZE {
-        compare_large::compare_calls(seen, &file[0..size], second);
-        let shuffled = &other[0..size];
-        compare_shuffled::compare_orders_of(seen, &file[0..size], shuffled, &renumbered, second);
-        return;
-    }
-    outcomes::expect(seen, false);
-}
-
-fn large_traces(seen: &mut [u64; SEEN], count: usize) {
-    let mut seed: u64 = 77;
-    for i in 0..count {
-        seed = random_files::next(seed);
-        large_case(seen, random_files::next(seed / 2 + 1));
-    }
-}
-
 // What is printed
 
 fn print_number(label: &[u8], x: u64) {
@@ -226,10 +109,10 @@ fn main() {
     let mut lists = [0u64; SEEN];
     let mut large = [0u64; SEEN];
     typed_part(&mut typed);
-    random_traces(&mut random, CASES);
-    damaged_files(&mut damaged, CASES);
-    random_lists(&mut lists, CASES);
-    large_traces(&mut large, LARGE);
+    comparison::random_traces(&mut random, CASES);
+    comparison::damaged_files(&mut damaged, CASES);
+    comparison::random_lists(&mut lists, CASES);
+    large_cases::large_traces(&mut large, LARGE);
     print_number(b"mismatches ", typed[MISMATCHES]);
     print_number(b" ", random[MISMATCHES]);
     print_number(b" ", damaged[MISMATCHES]);

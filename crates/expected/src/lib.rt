@@ -1,20 +1,19 @@
 // What is due from the calls on a file of up to eight operations: what all its runs say, by document 01's words.
-use every_run::Rules;
 use outcomes::Answer;
+use small_rules::Rules;
 
 // How many operations of worker q are in the set.
 fn of_worker(file: &[u8], set: u8, q: usize) -> u16 {
     let mut n: u16 = 0;
     for x in 0..8 {
-        if every_run::has(set, x) && plain_file::worker_of(file, x) == q {
+        if small_rules::has(set, x) && plain_file::worker_of(file, x) == q {
             n = n % 8 + 1;
         }
     }
     n
 }
 
-// The counts of a file, and the first "no" among its questions with its place, or 0; where the file does not read as a
-// trace, the counts are the largest here, so that memory is lent. `sound` says that the rules are known, that the search
+// The counts of a file, and the first "no" among its questions with its place, or 0. `sound` says that the rules are known, that the search
 // came to its end, that each largest run contains every run that lacks its operation, and that a trace with a complete
 // run has no dead end; `shared`, that the file is accepted and the event of some Wait has several Posts.
 pub struct Judgement {
@@ -56,7 +55,7 @@ fn fill_rows(file: &[u8], largest: &[u8; 8], rows: &mut [u16; 136]) {
 
 // Is operation a certain before b? No complete run has b before it.
 fn must_precede(after: &[u8; 8], a: usize, b: usize) -> bool {
-    a != b && !every_run::has(after[b % 8], a)
+    a != b && !small_rules::has(after[b % 8], a)
 }
 
 // The order of a and b at a × 8 + b: 1 where a is certain before b, 2 where b is certain before a, else 0.
@@ -82,7 +81,7 @@ fn has_shared_event(r: Rules) -> bool {
 
 // Question 10, and what all runs say of the trace.
 fn judged(file: &[u8], rows: &mut [u16; 136], orders: &mut [u32; 64]) -> Judgement {
-    let r = every_run::rules_of(file);
+    let r = small_rules::rules_of(file);
     let mut reached = [false; 256];
     let mut after = [0u8; 8];
     let mut largest = [0u8; 8];
@@ -116,8 +115,8 @@ pub fn judgement_of(file: &[u8], rows: &mut [u16; 136], orders: &mut [u32; 64]) 
         return Judgement {
             number: v.number,
             place: v.place,
-            workers: 16,
-            count: 8,
+            workers: 0,
+            count: 0,
             sound: true,
             shared: false,
             runs: 0,
@@ -132,8 +131,8 @@ pub fn reading_due(judgement: Judgement) -> Answer {
     if judgement.number != 0 {
         return outcomes::refusal(judgement.number, judgement.place);
     }
-    let workers = (judgement.workers % 256) as u32;
-    outcomes::success([workers, (judgement.count % 1025) as u32, 0, 0])
+    let workers = test_memory::number(judgement.workers);
+    outcomes::success([workers, test_memory::number(judgement.count), 0, 0])
 }
 
 // Races
@@ -148,7 +147,7 @@ pub fn races_of(file: &[u8], orders: &[u32; 64], lower: &mut [u16], higher: &mut
     let mut n: usize = 0;
     for i in 0..64 {
         let race = is_race(file, orders, i / 8, i % 8);
-        n = outcomes::put_race(race, i / 8, i % 8, n, lower, higher);
+        n = test_memory::put_race(race, i / 8, i % 8, n, lower, higher);
     }
     n
 }
@@ -158,7 +157,7 @@ pub fn races_of(file: &[u8], orders: &[u32; 64], lower: &mut [u16], higher: &mut
 // The next operation of worker q, the first of its operations that is not done; 8 where there is none.
 fn next_of(file: &[u8], done: u8, q: usize) -> usize {
     for x in 0..plain_file::operations(file) {
-        if plain_file::worker_of(file, x) == q && !every_run::has(done, x) {
+        if plain_file::worker_of(file, x) == q && !small_rules::has(done, x) {
             return x % 8;
         }
     }
@@ -169,7 +168,7 @@ fn next_of(file: &[u8], done: u8, q: usize) -> usize {
 fn next_by_rule(file: &[u8], r: Rules, done: u8, held: usize) -> usize {
     for q in 0..plain_file::workers(file) {
         let x = next_of(file, done, q);
-        if x != held && every_run::may_follow(r, done, x) {
+        if x != held && small_rules::may_follow(r, done, x) {
             return x;
         }
     }
@@ -179,7 +178,7 @@ fn next_by_rule(file: &[u8], r: Rules, done: u8, held: usize) -> usize {
 // The run that holds back operation `held` by document 01's rule; how many operations it has. Where none but `held` can
 // run, nothing is held back from there on.
 pub fn held_back_run(file: &[u8], held: usize, list: &mut [u16]) -> usize {
-    let r = every_run::rules_of(file);
+    let r = small_rules::rules_of(file);
     let mut done: u8 = 0;
     let mut kept = held;
     for i in 0..8 {
@@ -191,8 +190,8 @@ pub fn held_back_run(file: &[u8], held: usize, list: &mut [u16]) -> usize {
         if x == 8 {
             return i;
         }
-        outcomes::put(list, i, x);
-        done = every_run::with(done, x);
+        test_memory::put(list, i, x);
+        done = small_rules::with(done, x);
     }
     8
 }
@@ -203,14 +202,14 @@ fn operation(x: u16) -> usize {
 
 // Is the list a complete run? Each number may follow those before it, and there are as many as operations.
 pub fn is_complete_run(file: &[u8], list: &[u16]) -> bool {
-    let r = every_run::rules_of(file);
+    let r = small_rules::rules_of(file);
     let mut done: u8 = 0;
     for i in 0..list.len() {
         let x = operation(list[i]);
-        if !every_run::may_follow(r, done, x) {
+        if !small_rules::may_follow(r, done, x) {
             return false;
         }
-        done = every_run::with(done, x);
+        done = small_rules::with(done, x);
     }
     list.len() == r.count
 }

@@ -7,7 +7,7 @@ pub const TABLE: usize = 16390;
 // The rows
 
 fn entry(table: &[u16; TABLE], i: usize) -> usize {
-    outcomes::operation(table[i % TABLE])
+    test_memory::operation(table[i % TABLE])
 }
 
 // Does row k count the operations of the largest run without k?
@@ -16,7 +16,7 @@ fn row_holds(file: &[u8], table: &[u16; TABLE], k: usize) -> bool {
     let mut next = [0usize; 16];
     step_by_step::largest_without(file, k, &mut next);
     for q in 0..p {
-        if entry(table, outcomes::product(k, p) + q) != step_by_step::of_worker(file, &next, q) {
+        if entry(table, test_memory::product(k, p) + q) != step_by_step::of_worker(file, &next, q) {
             return false;
         }
     }
@@ -52,7 +52,11 @@ pub fn fill_ranks(file: &[u8], rank: &mut [usize; 1024]) {
 // Is b in the largest run without a, as row a counts it?
 fn is_counted(file: &[u8], table: &[u16; TABLE], rank: &[usize; 1024], a: usize, b: usize) -> bool {
     let q = plain_file::worker_of(file, b);
-    rank[b % 1024] <= entry(table, outcomes::product(a, plain_file::workers(file)) + q)
+    rank[b % 1024]
+        <= entry(
+            table,
+            test_memory::product(a, plain_file::workers(file)) + q,
+        )
 }
 
 // The order of a and b: 1 where a is certain before b, 2 where b is certain before a, else 0.
@@ -91,7 +95,7 @@ fn put_races_of(
     let mut count = n;
     for b in a % 1024 + 1..plain_file::operations(file) {
         let race = is_race(file, table, rank, a, b);
-        count = outcomes::put_race(race, a, b, count, lower, higher);
+        count = test_memory::put_race(race, a, b, count, lower, higher);
     }
     count
 }

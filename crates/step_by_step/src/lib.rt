@@ -3,6 +3,7 @@
 //
 // Of the run at hand, next[q] is the first operation of worker q that is not in it, or the operation count where all of
 // them are; posted[e] says whether a Post of event e is in it.
+use outcomes::Answer;
 
 // The first operation of worker q from `from` on; the operation count where there is none.
 pub fn first_from(file: &[u8], from: usize, q: usize) -> usize {
@@ -102,6 +103,19 @@ pub fn of_worker(file: &[u8], next: &[usize; 16], q: usize) -> usize {
     n
 }
 
+// What is due from reading the file: question 10, by the largest run, and the counts.
+pub fn reading_due(file: &[u8]) -> Answer {
+    let count = plain_file::operations(file);
+    let mut next = [0usize; 16];
+    largest_without(file, count, &mut next);
+    let outside = lowest_outside(file, &next);
+    if outside < count {
+        return outcomes::refusal(10, test_memory::number(outside));
+    }
+    let workers = test_memory::number(plain_file::workers(file));
+    outcomes::success([workers, test_memory::number(count), 0, 0])
+}
+
 // The two runs
 
 // Can the next operation of some worker below q run, other than `held`?
@@ -144,7 +158,7 @@ pub fn is_held_back_run(file: &[u8], list: &[u16], held: usize) -> bool {
     let mut kept = held;
     start(file, &mut next);
     for i in 0..list.len() {
-        let x = outcomes::operation(list[i]);
+        let x = test_memory::operation(list[i]);
         if x == kept && !can_run_below(file, &next, &posted, 16, kept) {
             kept = none;
         }

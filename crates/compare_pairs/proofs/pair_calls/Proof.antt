@@ -5,13 +5,22 @@ use Rattle.compare_pairs.proofs.pair_calls.Statement.{statement}
 use Rattle.compare_pairs.proofs.pair_calls.Tie as tie
 
 abbrev Inv-loop : tie.InvT-loop
-Inv-loop seen₀ file judgement orders way most i₀ seen i = Unit {0}
+Inv-loop seen₀ file reading orders way most n i₀ seen i = Unit {0}
 
 abbrev μ-loop : tie.MeasureT-loop
-μ-loop seen₀ file judgement orders way most i₀ seen i = 81 - i
+μ-loop seen₀ file reading orders way most n i₀ seen i = 81 - i
+
+highest-requires : tie.Need-highest-requires Inv-loop μ-loop
+highest-requires c κs = search needs
+
+room-of-requires : tie.Need-room-of-requires Inv-loop μ-loop
+room-of-requires c κs = search needs
 
 loop-holds : tie.Need-loop-holds Inv-loop μ-loop
 loop-holds c = search needs
+
+order-due-requires : tie.Need-order-due-requires Inv-loop μ-loop
+order-due-requires c κs = search needs
 
 add-pair-call : tie.Need-add-pair-call Inv-loop μ-loop
 add-pair-call c = search needs
@@ -37,7 +46,10 @@ pair-calls-spec =
     (tie.spec
     Inv-loop
     μ-loop
+    highest-requires
+    room-of-requires
     loop-holds
+    order-due-requires
     add-pair-call
     pair-call-requires
     add-i

@@ -1,0 +1,46 @@
+-- `random_lists` is safe and ends. Assumes nothing.
+use Prim.Native.Nat.{_-_}
+use borrow.Author.Needs.{needs}
+use Rattle.comparison.proofs.random_lists.Statement.{statement}
+use Rattle.comparison.proofs.random_lists.Tie as tie
+
+abbrev Inv-loop : tie.InvT-loop
+Inv-loop seen₀ count seed₀ i₀ seen seed i = Unit {0}
+
+abbrev μ-loop : tie.MeasureT-loop
+μ-loop seen₀ count seed₀ i₀ seen seed i = count - i
+
+loop-holds : tie.Need-loop-holds Inv-loop μ-loop
+loop-holds c = search needs
+
+next-requires : tie.Need-next-requires Inv-loop μ-loop
+next-requires c κs = search needs
+
+beginning-case-requires : tie.Need-beginning-case-requires Inv-loop μ-loop
+beginning-case-requires c κs = search needs
+
+add-i : tie.Need-add-i Inv-loop μ-loop
+add-i c = search needs
+
+loop-less : tie.Need-loop-less Inv-loop μ-loop
+loop-less c = search needs
+
+loop-again : tie.Need-loop-again Inv-loop μ-loop
+loop-again c = search needs
+
+returns : tie.Need-returns Inv-loop μ-loop
+returns c = search needs
+
+pub random-lists-spec : {M : Type 1} → statement M
+random-lists-spec =
+    tie.close
+    (tie.spec
+    Inv-loop
+    μ-loop
+    loop-holds
+    next-requires
+    beginning-case-requires
+    add-i
+    loop-less
+    loop-again
+    returns)
