@@ -17,6 +17,7 @@ pub struct Line {
     pub next: usize,
 }
 
+// The number with one digit more, modulo 2^32.
 fn longer(number: u32, digit: u8) -> u32 {
     ((number as u64 * 10 + digit as u64) % 4294967296) as u32
 }

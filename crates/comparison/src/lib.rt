@@ -68,7 +68,9 @@ fn beginning_of<'a>(
         let list = &first[0..first_length];
         let failing = &second[0..second_length];
         compare_pairs::beginning_call(seen, list, failing, chosen, other);
+        return;
     }
+    outcomes::expect(seen, false);
 }
 
 fn beginning_case(seen: &mut [u64; SEEN], seed: u64) {

@@ -40,10 +40,15 @@ fn print_all_refused(label: &[u8], seen: &[u64; SEEN], from: usize) {
 // The number behind label i, of labels of 32 bytes, each on a line; nothing where the number is 0.
 fn print_kind(labels: &[u8], i: usize, x: u64) {
     let at = i % 64 * 33 + 1;
-    if 0 < x && at + 32 <= labels.len() {
+    if x == 0 {
+        return;
+    }
+    if at + 32 <= labels.len() {
         io::write_all(STDOUT_FILENO, &labels[at..at + 32]);
         print_some(b" ", x);
+        return;
     }
+    print_some(b"  a kind that has no label: ", x);
 }
 
 fn print_kinds(labels: &[u8], seen: &[u64; SEEN], count: usize) {

@@ -95,16 +95,13 @@ fn posted_event(posted: Posted, seed: u64) -> u32 {
 
 fn put_access(file: &mut [u8], k: usize, style: Style, worker: u32, seed: u64) {
     let second = next(seed);
-    let kind = below(seed, 3) / 2;
+    let kind = if below(seed, 3) < 2 {
+        test_files::READ
+    } else {
+        test_files::WRITE
+    };
     let cell = style.first_cell % 4294960001 + below(second, style.cells as u64) % 4096;
-    test_files::put_operation(
-        file,
-        k,
-        worker,
-        3 + kind % 2,
-        cell,
-        below(second / 4096, 4) + 1,
-    );
+    test_files::put_operation(file, k, worker, kind, cell, below(second / 4096, 4) + 1);
 }
 
 // Writes operation k. A Wait is for an event that was posted before, so that the file order is a run, unless the trace
@@ -116,7 +113,7 @@ fn put_random(file: &mut [u8], k: usize, style: Style, posted: Posted, seed: u64
     let drawn = below(second, 16);
     if drawn < style.posts {
         let event = event_of(style, posted, third);
-        test_files::put_operation(file, k, worker, 1, event, 0);
+        test_files::put_operation(file, k, worker, test_files::POST, event, 0);
         return with_post(posted, event);
     }
     if drawn < style.posts % 16 + style.waits % 16 && (0 < posted.count || style.stuck) {
@@ -126,7 +123,7 @@ fn put_random(file: &mut [u8], k: usize, style: Style, posted: Posted, seed: u64
         } else {
             posted_event(posted, third)
         };
-        test_files::put_operation(file, k, worker, 2, event, 0);
+        test_files::put_operation(file, k, worker, test_files::WAIT, event, 0);
         return posted;
     }
     put_access(file, k, style, worker, third);
@@ -175,8 +172,8 @@ fn first_left(file: &[u8], left: &mut [usize; 16]) {
     }
 }
 
-// Writes the records of the file in another order, in which those of each worker stand as before; for each operation its
-// new number.
+// Writes the records of the file in another order, in which those of each worker stand as before; and for each
+// operation its new number.
 pub fn shuffle(file: &[u8], other: &mut [u8], renumbered: &mut [u16; 1024], seed: u64) {
     let mut left = [0usize; 16];
     let mut state = seed;

@@ -1,5 +1,5 @@
-// The race list and the tidy file on a large trace, compared with the rows of its table and with document 01's words; and
-// the calls on a large trace that is refused.
+// The race list and the tidy file on a large trace, compared with the rows of its table and with document 01's words;
+// and the calls on a large trace that is refused.
 use large_rows::TABLE;
 use outcomes::Answer;
 use outcomes::SEEN;

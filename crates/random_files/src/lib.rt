@@ -16,28 +16,42 @@ pub fn below(seed: u64, bound: u64) -> u32
     0
 }
 
+// One of two kinds.
+fn either_of(kinds: [u32; 2], seed: u64) -> u32 {
+    kinds[below(seed, 2) as usize % 2]
+}
+
+// Any kind.
+fn any_kind(seed: u64) -> u32 {
+    let kinds = [
+        test_files::POST,
+        test_files::WAIT,
+        test_files::READ,
+        test_files::WRITE,
+    ];
+    kinds[below(seed, 4) as usize % 4]
+}
+
 // The kinds of a trace: all alike, mostly Posts and Waits, mostly accesses, mostly Writes and Posts; or one worker
 // writes and posts what the next waits for and reads.
 fn kind_of(style: u32, worker: u32, seed: u64) -> u32 {
-    let kind = below(seed, 4) + 1;
     let often = below(seed / 64, 2);
+    if style == 4 && worker % 2 == 1 {
+        return either_of([test_files::READ, test_files::WAIT], seed);
+    }
     if style == 4 {
-        return if worker % 2 == 0 {
-            kind % 2 * 3 + 1
-        } else {
-            kind % 2 + 2
-        };
+        return either_of([test_files::WRITE, test_files::POST], seed);
     }
     if often == 0 || style == 0 {
-        return kind;
+        return any_kind(seed);
     }
     if style == 1 {
-        return kind % 2 + 1;
+        return either_of([test_files::WAIT, test_files::POST], seed);
     }
     if style == 2 {
-        return kind % 2 + 3;
+        return either_of([test_files::WRITE, test_files::READ], seed);
     }
-    kind % 2 * 3 + 1
+    either_of([test_files::WRITE, test_files::POST], seed)
 }
 
 // A trace has one event or two, which lie in one of the four words or in two.
@@ -70,7 +84,7 @@ fn random_operation(file: &mut [u8], k: usize, workers: u32, pool: u32, style: u
     let fourth = next(third);
     let worker = below(seed, workers as u64);
     let kind = kind_of(style, worker, second);
-    if kind < 3 {
+    if kind == test_files::POST || kind == test_files::WAIT {
         test_files::put_operation(file, k, worker, kind, event_of(pool, third), 0);
         return;
     }

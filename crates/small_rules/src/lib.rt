@@ -60,7 +60,7 @@ fn earlier(file: &[u8], x: usize) -> u8 {
 fn posts(file: &[u8], count: usize, event: u32) -> u8 {
     let mut set: u8 = 0;
     for y in 0..8 {
-        let post = y < count && plain_file::kind_of(file, y) == plain_file::POST;
+        let post = y < count && plain_file::kind_of(file, y) == test_files::POST;
         if post && plain_file::number_of(file, y) == event {
             set = with(set, y);
         }
@@ -71,10 +71,10 @@ fn posts(file: &[u8], count: usize, event: u32) -> u8 {
 // What x needs by its kind: a Wait a Post of its event, and the others nothing.
 fn with_kind(r: Rules, file: &[u8], x: usize) -> Rules {
     let kind = plain_file::kind_of(file, x);
-    if kind == plain_file::WAIT {
+    if kind == test_files::WAIT {
         return needs_one(r, x, posts(file, r.count, plain_file::number_of(file, x)));
     }
-    if kind == plain_file::POST || kind == plain_file::READ || kind == plain_file::WRITE {
+    if kind == test_files::POST || kind == test_files::READ || kind == test_files::WRITE {
         return r;
     }
     unknown(r)

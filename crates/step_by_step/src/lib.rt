@@ -30,10 +30,10 @@ pub fn is_done(file: &[u8], next: &[usize; 16], x: usize) -> bool {
 // Has x what it needs by its kind: a Wait a Post of its event, and the others nothing? What is not known never runs.
 fn has_needed(file: &[u8], posted: &[bool; 256], x: usize) -> bool {
     let kind = plain_file::kind_of(file, x);
-    if kind == plain_file::WAIT {
+    if kind == test_files::WAIT {
         return posted[plain_file::number_of(file, x) as usize % 256];
     }
-    kind == plain_file::POST || kind == plain_file::READ || kind == plain_file::WRITE
+    kind == test_files::POST || kind == test_files::READ || kind == test_files::WRITE
 }
 
 // May x follow the run?
@@ -48,7 +48,7 @@ fn may_follow(file: &[u8], next: &[usize; 16], posted: &[bool; 256], x: usize) -
 fn add(file: &[u8], next: &mut [usize; 16], posted: &mut [bool; 256], x: usize) {
     let q = plain_file::worker_of(file, x);
     next[q % 16] = first_from(file, x % 1024 + 1, q);
-    if plain_file::kind_of(file, x) == plain_file::POST {
+    if plain_file::kind_of(file, x) == test_files::POST {
         posted[plain_file::number_of(file, x) as usize % 256] = true;
     }
 }

@@ -1,7 +1,16 @@
 // How the bytes of a trace file lie, and writing them for tests.
 ghost use Prim.Native.Nat.{_≤_};
 
-// The form of a file is the second byte of its mark; below are the forms that are known, and how many bytes a record has.
+// The kinds of operations.
+pub const POST: u32 = 1;
+
+pub const WAIT: u32 = 2;
+
+pub const READ: u32 = 3;
+
+pub const WRITE: u32 = 4;
+
+// The form of a file is the second byte of its mark. These forms are known, with so many bytes a record.
 pub const PLAIN: u8 = 0x57;
 
 const PLAIN_RECORD: usize = 10;

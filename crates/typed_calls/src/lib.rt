@@ -22,11 +22,19 @@ pub fn looked(seen: &mut [u64; SEEN], holds: bool) {
     outcomes::expect(seen, holds);
 }
 
+// The number of a refusal; one that no call has where it is larger than any.
+fn refusal_number(x: u32) -> u8 {
+    if x < 256 {
+        return (x % 256) as u8;
+    }
+    255
+}
+
 // The answer that stands in a call's line behind what is lent or passed.
 fn due_in(line: Line) -> Answer {
     let row = line.number;
     let at = case_words::given(line.word);
-    let number = (row[at] % 256) as u8;
+    let number = refusal_number(row[at]);
     let place = row[at + 1];
     outcomes::answer_of(
         number,
@@ -50,7 +58,7 @@ fn reading_due(number: u32, place: u32, workers: u32, operations: u32) -> Answer
     if number == 0 {
         return outcomes::success([workers, operations, 0, 0]);
     }
-    outcomes::refusal((number % 256) as u8, place)
+    outcomes::refusal(refusal_number(number), place)
 }
 
 fn header_case(seen: &mut [u64; SEEN], file: &mut [u8; FILE], row: [u32; 24]) {
@@ -67,7 +75,7 @@ fn record_case(seen: &mut [u64; SEEN], file: &mut [u8; FILE], row: [u32; 24], pl
     let k = place as usize % 2;
     let at = test_files::file_size(form, k);
     test_files::put_header(file, form, row[3], place % 2 + 1);
-    test_files::put_operation(file, 0, 0, 3, 0, 1);
+    test_files::put_operation(file, 0, 0, test_files::READ, 0, 1);
     test_files::put_operation(file, k, row[4], row[5], row[6], row[7]);
     test_files::put_byte(file, at, row[1]);
     test_files::put_byte(file, at + 1, row[2]);
