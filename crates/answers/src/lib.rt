@@ -1,5 +1,6 @@
 // The answers of the calls that the C interface has, through it, as numbers. Each lends the first numbers of its
-// memory, as many as are said; where there are not so many, the call is not made, and the answer is one that none gives.
+// memory, as many as are said; where there are not so many, the call is not made, and the answer is one that no call
+// gives.
 use outcomes::Answer;
 
 pub fn accept_answer(file: &[u8]) -> Answer {
@@ -91,8 +92,16 @@ pub fn canonical_answer(file: &[u8], output: &mut [u8], size: usize) -> Answer {
     outcomes::answer_of(r.number, r.place, [r.size, 0, 0, 0])
 }
 
+// A length, or the largest number where it has more than 16 bits.
+fn length_value(length: usize) -> u32 {
+    if length < 65536 {
+        return (length % 65536) as u32;
+    }
+    4294967295
+}
+
 // Which list the beginning is a part of, 0 the first and 1 the second, and how many numbers it has.
 pub fn beginning_answer(first: &[u16], second: &[u16], chosen: u32, other: u32) -> Answer {
     let r = capi::mersohki_beginning(first, second, chosen, other);
-    outcomes::success([r.list, (r.length % 65536) as u32, 0, 0])
+    outcomes::success([r.list, length_value(r.length), 0, 0])
 }

@@ -10,6 +10,11 @@ fn clear(file: &mut [u8; FILE]) {
     }
 }
 
+// A sum modulo 2^32.
+fn sum(x: u32, y: u32) -> u32 {
+    ((x as u64 + y as u64) % 4294967296) as u32
+}
+
 fn put_many(file: &mut [u8; FILE], count: usize, row: [u32; 24]) {
     let mut k = basics::wide_index(row[1]);
     let mut worker = row[3];
@@ -18,7 +23,7 @@ fn put_many(file: &mut [u8; FILE], count: usize, row: [u32; 24]) {
         test_files::put_operation(file, k, worker, row[5], number, row[8]);
         k = k % 65536 + row[2] as usize % 65536;
         worker = (worker % 16 + row[4] % 16) % 16;
-        number = number % 65536 + row[7] % 65536;
+        number = sum(number, row[7]);
     }
 }
 
@@ -29,7 +34,8 @@ fn new_file(file: &mut [u8; FILE], workers: u32, operations: u32) -> usize {
     test_files::file_size(test_files::PLAIN, operations as usize)
 }
 
-// What the line says of the file; how many bytes are lent then.
+// What the line says of the file; how many bytes are lent then, and more than there are where nothing is known of its
+// word.
 pub fn change_file(file: &mut [u8; FILE], size: usize, line: Line) -> usize {
     let row = line.number;
     if line.word == case_words::FILE {
@@ -57,5 +63,5 @@ pub fn change_file(file: &mut [u8; FILE], size: usize, line: Line) -> usize {
     if line.word == case_words::SIZE {
         return basics::wide_index(row[0]);
     }
-    size
+    FILE + 1
 }

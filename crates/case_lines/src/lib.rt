@@ -17,17 +17,23 @@ pub struct Line {
     pub next: usize,
 }
 
-// The number with one digit more, modulo 2^32.
+// The number with one digit more, modulo 2^32; and whether it is less.
 fn longer(number: u32, digit: u8) -> u32 {
     ((number as u64 * 10 + digit as u64) % 4294967296) as u32
 }
 
-// One number more; from 25 on, which is more than a line can have, no more are counted.
+fn fits(number: u32, digit: u8) -> bool {
+    number as u64 * 10 + (digit as u64) < 4294967296
+}
+
+// More numbers than a line can have: from there on no more are counted. So is a line that is not of this form.
+const TOO_MANY: usize = 25;
+
 fn one_more(count: usize) -> usize {
-    if count < 25 {
+    if count < TOO_MANY {
         return count + 1;
     }
-    25
+    TOO_MANY
 }
 
 // The line with one digit more.
@@ -39,9 +45,9 @@ fn with_digit(line: Line, digit: u8) -> Line {
         one_more(line.count)
     };
     let at = (count % 26 + 23) % 24;
-    let number = longer(if line.inside { line.number[at] } else { 0 }, digit);
-    more.number[at] = number;
-    more.count = count;
+    let before = if line.inside { line.number[at] } else { 0 };
+    more.number[at] = longer(before, digit);
+    more.count = if fits(before, digit) { count } else { TOO_MANY };
     more.inside = true;
     more
 }
@@ -52,6 +58,9 @@ fn with_byte(line: Line, byte: u8) -> Line {
     }
     let mut more = line;
     more.inside = false;
+    if 0 < line.count && byte != b' ' {
+        more.count = TOO_MANY;
+    }
     more
 }
 

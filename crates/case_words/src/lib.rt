@@ -53,32 +53,32 @@ fn byte_at(text: &[u8], i: usize) -> u8 {
     b'\n'
 }
 
-// The list of words, 15 bytes each: the word in 11; how many numbers stand behind it, of a call those that are lent or
-// passed; and '-' where these are all, '+' where more may follow, or of a call how many values there are where none
-// refuses.
+// The list of words, 17 bytes each: the word in 11; how many numbers stand behind it, of a call those that are lent or
+// passed; '-' where these are all, '+' where more may follow, or of a call how many values there are where none refuses;
+// and who obeys it: the file at hand, what is read at once, a call, or lent memory.
 fn listed(i: usize) -> u8 {
     byte_at(
-        b"           0 -
-file       2 -
-op         5 -
-many       9 -
-byte       2 -
-size       1 -
-put-first  1 +
-put-second 1 +
-header     8 -
-record     8 -
-accept     0 2
-table      1 2
-pair       2 1
-runs       4 1
-races      3 3
-canonical  1 1
-beginning  4 2
-entries    2 +
-first      2 +
-second     2 +
-written    2 +
+        b"           0 - -
+file       2 - f
+op         5 - f
+many       9 - f
+byte       2 - f
+size       1 - f
+put-first  1 + m
+put-second 1 + m
+header     8 - r
+record     8 - r
+accept     0 2 c
+table      1 2 c
+pair       2 1 c
+runs       4 1 c
+races      3 3 c
+canonical  1 1 c
+beginning  4 2 c
+entries    2 + m
+first      2 + m
+second     2 + m
+written    2 + m
 ",
         i,
     )
@@ -109,7 +109,7 @@ fn letter(text: &[u8], from: usize, length: usize, i: usize) -> u8 {
 // Is the word that starts there the one at that place of the list?
 fn is_word(text: &[u8], from: usize, length: usize, word: usize) -> bool {
     for i in 0..11 {
-        if letter(text, from, length, i) != listed(word % WORDS * 15 + i) {
+        if letter(text, from, length, i) != listed(word % WORDS * 17 + i) {
             return false;
         }
     }
@@ -136,12 +136,28 @@ fn digit(byte: u8) -> usize
     0
 }
 
+pub const OF_FILE: u8 = b'f';
+
+pub const READ_AT_ONCE: u8 = b'r';
+
+pub const CALL: u8 = b'c';
+
+pub const OF_MEMORY: u8 = b'm';
+
+// Who obeys the word.
+pub fn obeyed_by(word: usize) -> u8 {
+    listed(word % WORDS * 17 + 15)
+}
+
 // How many numbers stand behind the word, of a call those that are lent or passed.
 pub fn given(word: usize) -> usize
     ensures { λ r. ⌜ r ≤ 9 ⌝ }
 {
-    digit(listed(word % WORDS * 15 + 11))
+    digit(listed(word % WORDS * 17 + 11))
 }
+
+// An answer has no more values.
+const MOST_VALUES: usize = 4;
 
 // How many values a call has by its mark in the list: none where it is refused by a number.
 fn values(mark: u8, number: u32) -> usize
@@ -155,7 +171,7 @@ fn values(mark: u8, number: u32) -> usize
 
 // Has a line with this word, and so many numbers of which the refusal is `number` if it is a call, what it needs?
 pub fn is_whole(word: usize, count: usize, number: u32) -> bool {
-    let mark = listed(word % WORDS * 15 + 13);
+    let mark = listed(word % WORDS * 17 + 13);
     let least = given(word);
     if WORDS <= word {
         return false;
@@ -166,5 +182,5 @@ pub fn is_whole(word: usize, count: usize, number: u32) -> bool {
     if mark == b'+' {
         return least <= count;
     }
-    count == least + 2 + values(mark, number)
+    digit(mark) <= MOST_VALUES && count == least + 2 + values(mark, number)
 }

@@ -90,22 +90,8 @@ fn runs_agree<'a>(renumbered: &[u16; 1024], list: &'a [u16], other: &'a [u16], n
     true
 }
 
-fn compare_orders(
-    seen: &mut [u64; SEEN],
-    file: &[u8],
-    other_file: &[u8],
-    renumbered: &[u16; 1024],
-    a: u16,
-    b: u16,
-) {
-    let x = new_number(renumbered, a);
-    let y = new_number(renumbered, b);
-    let answer = answers::order_answer(file, a as u32, b as u32);
-    let other_answer = answers::order_answer(other_file, x as u32, y as u32);
-    outcomes::note(seen, answer.number, outcomes::same(answer, other_answer));
-}
-
-fn compare_runs(
+// The order of two operations, and their two runs.
+fn compare_pair(
     seen: &mut [u64; SEEN],
     file: &[u8],
     other_file: &[u8],
@@ -119,6 +105,8 @@ fn compare_runs(
     let mut other_second = [0u16; RUN];
     let x = new_number(renumbered, a) as u32;
     let y = new_number(renumbered, b) as u32;
+    let order = answers::order_answer(file, a as u32, b as u32);
+    outcomes::compare(seen, answers::order_answer(other_file, x, y), order, true);
     let answer = answers::runs_answer(file, a as u32, b as u32, &mut first, RUN, &mut second, RUN);
     let other = answers::runs_answer(
         other_file,
@@ -135,7 +123,7 @@ fn compare_runs(
     outcomes::note(seen, answer.number, outcomes::same(answer, other) && agree);
 }
 
-fn compare_pairs(
+fn compare_some_pairs(
     seen: &mut [u64; SEEN],
     file: &[u8],
     other_file: &[u8],
@@ -148,8 +136,7 @@ fn compare_pairs(
         let other_state = random_files::next(state);
         let a = random_files::below(state, n) as u16;
         let b = random_files::below(other_state, n) as u16;
-        compare_orders(seen, file, other_file, renumbered, a, b);
-        compare_runs(seen, file, other_file, renumbered, a, b);
+        compare_pair(seen, file, other_file, renumbered, a, b);
         state = random_files::next(other_state);
     }
 }
@@ -235,7 +222,7 @@ fn compare_tidy(seen: &mut [u64; SEEN], file: &[u8], other_file: &[u8]) {
 }
 
 // Makes the calls on both files; a trace that is refused in the one order is refused in the other.
-pub fn compare_orders_of(
+pub fn compare_files(
     seen: &mut [u64; SEEN],
     file: &[u8],
     other_file: &[u8],
@@ -245,13 +232,15 @@ pub fn compare_orders_of(
     let answer = answers::accept_answer(file);
     let other = step_by_step::reading_due(other_file);
     outcomes::compare(seen, answers::accept_answer(other_file), other, true);
-    outcomes::count(seen, outcomes::SHUFFLED, 1);
+    if 1 < plain_file::workers(file) {
+        outcomes::count(seen, outcomes::SHUFFLED, 1);
+    }
     outcomes::expect(seen, answer.number == other.number);
     if answer.number != 0 {
         return;
     }
     compare_tables(seen, file, other_file, renumbered);
-    compare_pairs(seen, file, other_file, renumbered, seed);
+    compare_some_pairs(seen, file, other_file, renumbered, seed);
     compare_races(seen, file, other_file, renumbered);
     compare_tidy(seen, file, other_file);
 }

@@ -114,9 +114,9 @@ fn main() {
     let mut lists = [0u64; SEEN];
     let mut large = [0u64; SEEN];
     typed_part(&mut typed);
-    comparison::random_traces(&mut random, CASES);
-    comparison::damaged_files(&mut damaged, CASES);
-    comparison::random_lists(&mut lists, CASES);
+    small_cases::random_traces(&mut random, CASES);
+    small_cases::damaged_files(&mut damaged, CASES);
+    small_cases::random_lists(&mut lists, CASES);
     large_cases::large_traces(&mut large, LARGE);
     print_number(b"mismatches ", typed[MISMATCHES]);
     print_number(b" ", random[MISMATCHES]);

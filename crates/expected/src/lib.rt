@@ -197,16 +197,12 @@ pub fn held_back_run(file: &[u8], held: usize, list: &mut [u16]) -> usize {
     8
 }
 
-fn operation(x: u16) -> usize {
-    x as usize
-}
-
 // Is the list a complete run? Each number may follow those before it, and there are as many as operations.
 pub fn is_complete_run(file: &[u8], list: &[u16]) -> bool {
     let r = small_rules::rules_of(file);
     let mut done: u8 = 0;
     for i in 0..list.len() {
-        let x = operation(list[i]);
+        let x = test_memory::operation(list[i]);
         if !small_rules::may_follow(r, done, x) {
             return false;
         }

@@ -142,15 +142,19 @@ fn put_operations(file: &mut [u8], count: usize, style: Style, seed: u64) {
     }
 }
 
-// Writes the file of a random trace of 9 to 1,024 operations; how many bytes it has.
-pub fn large_trace(file: &mut [u8], seed: u64) -> usize {
+// Writes the file of a random trace of 9 to 1,024 operations in a form; how many bytes it has.
+pub fn large_trace(file: &mut [u8], form: u8, seed: u64) -> usize {
     let second = next(seed);
     let most = one_of([24, 24, 80, 80, 250, 250, 500, 1016], seed);
-    let count = below(second, most as u64) + 9;
+    let count = if below(seed / 4096, 24) == 0 {
+        1024
+    } else {
+        below(second, most as u64) + 9
+    };
     let style = style_of(next(second));
-    test_files::put_header(file, test_files::PLAIN, style.workers, count);
+    test_files::put_header(file, form, style.workers, count);
     put_operations(file, count as usize, style, next(next(second) / 2 + 1));
-    test_files::file_size(test_files::PLAIN, count as usize)
+    test_files::file_size(form, count as usize)
 }
 
 // The same trace in another file order
@@ -168,7 +172,7 @@ fn worker_left(file: &[u8], left: &[usize; 16], q: usize) -> usize {
 
 fn first_left(file: &[u8], left: &mut [usize; 16]) {
     for q in 0..16 {
-        left[q] = step_by_step::first_from(file, 0, q);
+        left[q] = plain_file::first_from(file, 0, q);
     }
 }
 
@@ -184,7 +188,7 @@ pub fn shuffle(file: &[u8], other: &mut [u8], renumbered: &mut [u16; 1024], seed
         let x = left[q % 16];
         plain_file::copy_record(file, x % 1024 + 1, other, i + 1);
         renumbered[x % 1024] = (i % 1024) as u16;
-        left[q % 16] = step_by_step::first_from(file, x % 1024 + 1, q);
+        left[q % 16] = plain_file::first_from(file, x % 1024 + 1, q);
         state = next(state);
     }
 }

@@ -98,6 +98,27 @@ pub fn tidy_call(seen: &mut [u64; SEEN], file: &[u8], reading: Answer) {
     }
 }
 
+// Space that is too short
+
+// A table and an output that are one too short.
+pub fn short_calls(seen: &mut [u64; SEEN], file: &[u8], size: usize) {
+    let mut table = [0u16; TABLE];
+    let mut output = [0u8; OUTPUT];
+    test_memory::fill(&mut table);
+    test_memory::fill_bytes(&mut output);
+    let rows = answers::table_answer(file, &mut table, test_memory::less_one(size));
+    let room = test_memory::less_one(file.len());
+    let canonical = answers::canonical_answer(file, &mut output, room);
+    let untouched = test_memory::holds_bytes(&output, &output, 0);
+    outcomes::compare(
+        seen,
+        rows,
+        outcomes::refusal(11, 0),
+        test_memory::untouched(&table),
+    );
+    outcomes::compare(seen, canonical, outcomes::refusal(17, 0), untouched);
+}
+
 // Refused files
 
 fn refused_lists(seen: &mut [u64; SEEN], file: &[u8], due: Answer) {

@@ -32,10 +32,13 @@ fn run_holds(file: &[u8], n: usize, a: usize, b: usize, buffer: &[u16]) -> bool 
     step_by_step::is_held_back_run(file, run, b) && stands_first(run, a, b)
 }
 
-// What is due from the two runs, where the order is known.
-fn runs_due(n: usize, order: u32) -> Answer {
+// What is due from the two runs in buffers of such sizes, where the order is known.
+fn runs_due(n: usize, order: u32, sizes: [usize; 2]) -> Answer {
     if order != 0 {
         return outcomes::refusal(14, 0);
+    }
+    if sizes[0] < n || sizes[1] < n {
+        return outcomes::refusal(15, 0);
     }
     outcomes::success([test_memory::number(n), 0, 0, 0])
 }
@@ -56,6 +59,14 @@ fn buffers_hold<'a>(
     run_holds(file, n, a, b, first) && run_holds(file, n, b, a, second)
 }
 
+// A size that just fits n numbers, that is larger, or now and then too small.
+fn room(n: usize, way: usize) -> usize {
+    if way % 5 == 4 {
+        return test_memory::less_one(n);
+    }
+    test_memory::more(n, way % 5 % 4)
+}
+
 // The two runs of a and b, whose order is known.
 fn runs_call(seen: &mut [u64; SEEN], file: &[u8], n: usize, a: usize, b: usize, order: u32) {
     let mut first = [0u16; RUN];
@@ -64,21 +75,21 @@ fn runs_call(seen: &mut [u64; SEEN], file: &[u8], n: usize, a: usize, b: usize, 
     test_memory::fill(&mut second);
     let x = test_memory::number(a);
     let y = test_memory::number(b);
-    let more = test_memory::more(n, 2);
-    let answer = answers::runs_answer(file, x, y, &mut first, n, &mut second, more);
-    let memory = buffers_hold(file, n, a, b, order != 0, &first, &second);
-    outcomes::compare(seen, answer, runs_due(n, order), memory);
+    let sizes = [room(n, a), room(n, b)];
+    let answer = answers::runs_answer(file, x, y, &mut first, sizes[0], &mut second, sizes[1]);
+    let due = runs_due(n, order, sizes);
+    let memory = buffers_hold(file, n, a, b, due.number != 0, &first, &second);
+    outcomes::compare(seen, answer, due, memory);
+    outcomes::count(seen, outcomes::STEPS, outcomes::value(due, 0) as u64);
+    outcomes::count(seen, outcomes::STEPS, outcomes::value(due, 0) as u64);
 }
 
 fn count_order(seen: &mut [u64; SEEN], file: &[u8], order: u32, a: usize, b: usize) {
     let apart = plain_file::worker_of(file, a) != plain_file::worker_of(file, b);
-    let steps = plain_file::operations(file) as u64;
     outcomes::note_order(seen, order, apart, plain_file::conflict(file, a, b));
-    outcomes::count(seen, outcomes::STEPS, if order == 0 { steps } else { 0 });
-    outcomes::count(seen, outcomes::STEPS, if order == 0 { steps } else { 0 });
 }
 
-// The order of a pair, and its two runs.
+// The order of a pair, by the largest runs, by the rows and by the call, and its two runs.
 fn pair_call(
     seen: &mut [u64; SEEN],
     file: &[u8],
@@ -93,22 +104,55 @@ fn pair_call(
         outcomes::compare(seen, answer, outcomes::refusal(13, 0), true);
         return;
     }
-    let order = large_rows::order_by_rows(file, table, rank, a, b);
-    outcomes::compare(seen, answer, outcomes::success([order, 0, 0, 0]), true);
+    let order = step_by_step::order_of(file, a, b);
+    let by_rows = large_rows::order_by_rows(file, table, rank, a, b);
+    outcomes::compare(
+        seen,
+        answer,
+        outcomes::success([order, 0, 0, 0]),
+        by_rows == order,
+    );
     count_order(seen, file, order, a, b);
     runs_call(seen, file, n, a, b, order);
 }
 
-// The first operation from b on, going round, that is in conflict with a; b where there is none.
+// The first operation from b on, going round, that is another than a and in conflict with it; a where there is none.
 fn partner(file: &[u8], a: usize, b: usize) -> usize {
     let n = plain_file::operations(file);
     for i in 0..n {
         let x = (b % 1024 + i) % n;
-        if plain_file::conflict(file, a, x) {
+        if x != a && plain_file::conflict(file, a, x) {
             return x;
         }
     }
-    b
+    a
+}
+
+// The first operation from a on, going round, that has a partner; the operation count where there is none.
+fn with_partner(file: &[u8], a: usize) -> usize {
+    let n = plain_file::operations(file);
+    for i in 0..n {
+        let x = (a % 1024 + i) % n;
+        if partner(file, x, 0) != x {
+            return x;
+        }
+    }
+    n
+}
+
+// A pair in conflict, where there is one.
+fn conflict_call(
+    seen: &mut [u64; SEEN],
+    file: &[u8],
+    table: &[u16; TABLE],
+    rank: &[usize; 1024],
+    from: usize,
+    to: usize,
+) {
+    let a = with_partner(file, from);
+    if a < plain_file::operations(file) {
+        pair_call(seen, file, table, rank, a, partner(file, a, to));
+    }
 }
 
 // Pairs of any operations, and pairs in conflict.
@@ -120,13 +164,15 @@ pub fn pair_calls(
     seed: u64,
 ) {
     let n = plain_file::operations(file) as u64;
+    let past = answers::order_answer(file, n as u32, 0);
     let mut state = seed;
+    outcomes::compare(seen, past, outcomes::refusal(12, 0), true);
     for i in 0..PAIRS {
         let other_state = random_files::next(state);
         let a = random_files::below(state, n) as usize;
         let b = random_files::below(other_state, n) as usize;
         pair_call(seen, file, table, rank, a, b);
-        pair_call(seen, file, table, rank, a, partner(file, a, b));
+        conflict_call(seen, file, table, rank, a, b);
         state = random_files::next(other_state);
     }
 }

@@ -30,7 +30,7 @@ pub fn compare_rows(seen: &mut [u64; SEEN], file: &[u8], table: &[u16; TABLE], s
     let count = plain_file::operations(file) as u64;
     let mut state = seed;
     for i in 0..SOME {
-        let k = random_files::below(state, count) as usize;
+        let k = random_files::below(state / 4096, count) as usize;
         outcomes::count(seen, outcomes::ROWS, 1);
         outcomes::expect(seen, row_holds(file, table, k));
         state = random_files::next(state);

@@ -88,8 +88,13 @@ fn random_operation(file: &mut [u8], k: usize, workers: u32, pool: u32, style: u
         test_files::put_operation(file, k, worker, kind, event_of(pool, third), 0);
         return;
     }
-    let cell = cell_of(pool, third);
-    test_files::put_operation(file, k, worker, kind, cell, length_of(cell, fourth));
+    if kind == test_files::READ || kind == test_files::WRITE {
+        let cell = cell_of(pool, third);
+        test_files::put_operation(file, k, worker, kind, cell, length_of(cell, fourth));
+        return;
+    }
+    // a kind of which nothing is known here, so that it shows
+    test_files::put_operation(file, k, worker, 0, 0, 0);
 }
 
 fn random_operations(
@@ -107,15 +112,15 @@ fn random_operations(
     }
 }
 
-// Writes the file of a random trace; how many bytes it has.
-pub fn random_trace(file: &mut [u8], seed: u64) -> usize {
+// Writes the file of a random trace in a form; how many bytes it has.
+pub fn random_trace(file: &mut [u8], form: u8, seed: u64) -> usize {
     let second = next(seed);
     let third = next(second);
     let fourth = next(third);
     let drawn = below(seed, 12);
     let count = if drawn < 8 { drawn } else { 8 };
     let workers = below(second, 4) + 1;
-    test_files::put_header(file, test_files::PLAIN, workers, count);
+    test_files::put_header(file, form, workers, count);
     random_operations(
         file,
         count as usize,
@@ -124,7 +129,7 @@ pub fn random_trace(file: &mut [u8], seed: u64) -> usize {
         below(third / 64, 5),
         next(fourth),
     );
-    test_files::file_size(test_files::PLAIN, count as usize)
+    test_files::file_size(form, count as usize)
 }
 
 fn random_byte(seed: u64) -> u32 {
@@ -133,6 +138,17 @@ fn random_byte(seed: u64) -> u32 {
         return below(seed / 64, 256);
     }
     bytes[below(seed / 64, 8) as usize % 8]
+}
+
+// A place in the file's header.
+fn in_header(file: &[u8], at: usize) -> usize
+    ensures { λ r. ⌜ r ≤ 100 ⌝ }
+{
+    let size = test_files::record_size(test_files::form_of(file));
+    if 0 < size {
+        return at % size % 100;
+    }
+    0
 }
 
 // Damages the bytes of a file of `size` bytes; how many of them are left, or how many there are with more added. Most
@@ -146,18 +162,19 @@ pub fn damaged(file: &mut [u8], size: usize, seed: u64) -> usize {
         return at;
     }
     if way == 1 {
-        return size % 100 + at % 10 + 1;
+        return size % 128 + at % 10 + 1;
     }
     if way == 2 {
         test_files::put_byte(file, 2, random_byte(third));
         return size;
     }
     if way == 3 {
-        test_files::put_byte(file, 4 + at % 6, random_byte(third));
+        test_files::put_byte(file, 4 + in_header(file, at) % 8, random_byte(third));
         return size;
     }
     if way == 4 {
-        test_files::put_byte(file, at % 10, random_byte(third));
+        let first = in_header(file, at);
+        test_files::put_byte(file, first, random_byte(third));
         test_files::put_byte(file, at, random_byte(next(third)));
         return size;
     }

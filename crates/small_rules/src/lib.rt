@@ -71,7 +71,7 @@ fn posts(file: &[u8], count: usize, event: u32) -> u8 {
 // What x needs by its kind: a Wait a Post of its event, and the others nothing.
 fn with_kind(r: Rules, file: &[u8], x: usize) -> Rules {
     let kind = plain_file::kind_of(file, x);
-    if kind == test_files::WAIT {
+    if kind == test_files::WAIT && plain_file::length_of(file, x) == 0 {
         return needs_one(r, x, posts(file, r.count, plain_file::number_of(file, x)));
     }
     if kind == test_files::POST || kind == test_files::READ || kind == test_files::WRITE {

@@ -5,20 +5,10 @@
 // them are; posted[e] says whether a Post of event e is in it.
 use outcomes::Answer;
 
-// The first operation of worker q from `from` on; the operation count where there is none.
-pub fn first_from(file: &[u8], from: usize, q: usize) -> usize {
-    for x in from..plain_file::operations(file) {
-        if plain_file::worker_of(file, x) == q {
-            return x;
-        }
-    }
-    plain_file::operations(file)
-}
-
 // The empty run.
 fn start(file: &[u8], next: &mut [usize; 16]) {
     for q in 0..16 {
-        next[q] = first_from(file, 0, q);
+        next[q] = plain_file::first_from(file, 0, q);
     }
 }
 
@@ -30,7 +20,7 @@ pub fn is_done(file: &[u8], next: &[usize; 16], x: usize) -> bool {
 // Has x what it needs by its kind: a Wait a Post of its event, and the others nothing? What is not known never runs.
 fn has_needed(file: &[u8], posted: &[bool; 256], x: usize) -> bool {
     let kind = plain_file::kind_of(file, x);
-    if kind == test_files::WAIT {
+    if kind == test_files::WAIT && plain_file::length_of(file, x) == 0 {
         return posted[plain_file::number_of(file, x) as usize % 256];
     }
     kind == test_files::POST || kind == test_files::READ || kind == test_files::WRITE
@@ -47,7 +37,7 @@ fn may_follow(file: &[u8], next: &[usize; 16], posted: &[bool; 256], x: usize) -
 // Adds x to the run.
 fn add(file: &[u8], next: &mut [usize; 16], posted: &mut [bool; 256], x: usize) {
     let q = plain_file::worker_of(file, x);
-    next[q % 16] = first_from(file, x % 1024 + 1, q);
+    next[q % 16] = plain_file::first_from(file, x % 1024 + 1, q);
     if plain_file::kind_of(file, x) == test_files::POST {
         posted[plain_file::number_of(file, x) as usize % 256] = true;
     }
@@ -103,8 +93,12 @@ pub fn of_worker(file: &[u8], next: &[usize; 16], q: usize) -> usize {
     n
 }
 
-// What is due from reading the file: question 10, by the largest run, and the counts.
+// What is due from reading the file: its questions, of which 10 is asked of the largest run, and the counts.
 pub fn reading_due(file: &[u8]) -> Answer {
+    let v = plain_file::first_no(file);
+    if v.number != 0 {
+        return outcomes::refusal(v.number, v.place);
+    }
     let count = plain_file::operations(file);
     let mut next = [0usize; 16];
     largest_without(file, count, &mut next);
@@ -114,6 +108,24 @@ pub fn reading_due(file: &[u8]) -> Answer {
     }
     let workers = test_memory::number(plain_file::workers(file));
     outcomes::success([workers, test_memory::number(count), 0, 0])
+}
+
+// Is operation a certain before b? b is not in the largest run without a.
+fn must_precede(file: &[u8], a: usize, b: usize) -> bool {
+    let mut next = [0usize; 16];
+    largest_without(file, a, &mut next);
+    !is_done(file, &next, b)
+}
+
+// The order of a and b, which differ: 1 where a is certain before b, 2 where b is certain before a, else 0.
+pub fn order_of(file: &[u8], a: usize, b: usize) -> u32 {
+    if must_precede(file, a, b) {
+        return 1;
+    }
+    if must_precede(file, b, a) {
+        return 2;
+    }
+    0
 }
 
 // The two runs

@@ -15,7 +15,7 @@ pub const PLAIN: u8 = 0x57;
 
 const PLAIN_RECORD: usize = 10;
 
-// How many bytes a record has; 0 for a form that is not known, so that none of its records is read or written in place.
+// How many bytes a record has; 0 for a form that is not known.
 pub fn record_size(form: u8) -> usize
     ensures { λ r. ⌜ r ≤ 10 ⌝ }
 {
@@ -25,14 +25,15 @@ pub fn record_size(form: u8) -> usize
     0
 }
 
-// Where record k starts, where the header is record 0.
+// Where record k starts, where the header is record 0; for a form that is not known, behind every file, so that none of
+// its records is read or written.
 pub fn record_start(form: u8, k: usize) -> usize
     ensures { λ r. ⌜ r ≤ 655360 ⌝ }
 {
     if form == PLAIN {
         return k % 65537 * PLAIN_RECORD;
     }
-    0
+    655360
 }
 
 // How many bytes a file has, with its header.

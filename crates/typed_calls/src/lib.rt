@@ -11,11 +11,6 @@ pub const LIST: usize = 1100;
 
 pub const OUTPUT: usize = 10300;
 
-// Notes a typed answer: whether it is the one that is due.
-fn typed(seen: &mut [u64; SEEN], answer: Answer, due: Answer) {
-    outcomes::note(seen, due.number, outcomes::same(answer, due));
-}
-
 // Notes a look at lent memory.
 pub fn looked(seen: &mut [u64; SEEN], holds: bool) {
     outcomes::count(seen, outcomes::LOOKS, 1);
@@ -48,7 +43,7 @@ fn due_in(line: Line) -> Answer {
 // Reading the first `size` bytes; where there are fewer, it is a mismatch.
 fn reading_case(seen: &mut [u64; SEEN], bytes: &[u8], size: usize, due: Answer) {
     if size <= bytes.len() {
-        typed(seen, answers::accept_answer(&bytes[0..size]), due);
+        outcomes::compare(seen, answers::accept_answer(&bytes[0..size]), due, true);
         return;
     }
     outcomes::expect(seen, false);
@@ -83,6 +78,7 @@ fn record_case(seen: &mut [u64; SEEN], file: &mut [u8; FILE], row: [u32; 24], pl
     reading_case(seen, file, test_files::file_size(form, k + 1), due);
 }
 
+// A word of which nothing is known here is a mismatch.
 pub fn read_at_once(seen: &mut [u64; SEEN], file: &mut [u8; FILE], line: Line) {
     let row = line.number;
     if line.word == case_words::HEADER {
@@ -92,7 +88,9 @@ pub fn read_at_once(seen: &mut [u64; SEEN], file: &mut [u8; FILE], line: Line) {
     if line.word == case_words::RECORD {
         record_case(seen, file, row, 0);
         record_case(seen, file, row, 1);
+        return;
     }
+    outcomes::expect(seen, false);
 }
 
 // The calls
@@ -163,7 +161,7 @@ fn beginning_case<'a>(
     let part = beginning::beginning(first, second, chosen, other);
     let list = if due.values[0] == 0 { first } else { second };
     let length = outcomes::value(due, 1);
-    typed(seen, answer, due);
+    outcomes::compare(seen, answer, due, true);
     looked(
         seen,
         part.len() == length && test_memory::starts_with(list, part),
@@ -188,7 +186,7 @@ fn beginning_line<'a>(
     outcomes::expect(seen, false);
 }
 
-// Makes the call that the line says, on a file.
+// Makes the call that the line says, on a file; a word of which nothing is known here is a mismatch.
 pub fn call(
     seen: &mut [u64; SEEN],
     file: &[u8],
@@ -201,31 +199,37 @@ pub fn call(
     let row = line.number;
     let due = due_in(line);
     if line.word == case_words::ACCEPT {
-        typed(seen, answers::accept_answer(file), due);
+        outcomes::compare(seen, answers::accept_answer(file), due, true);
         return;
     }
     if line.word == case_words::TABLE {
-        typed(seen, table_answer(file, table, row), due);
+        outcomes::compare(seen, table_answer(file, table, row), due, true);
         return;
     }
     if line.word == case_words::PAIR {
-        typed(seen, answers::order_answer(file, row[0], row[1]), due);
+        outcomes::compare(seen, answers::order_answer(file, row[0], row[1]), due, true);
         return;
     }
     if line.word == case_words::RUNS {
-        typed(seen, runs_answer(file, first, second, row), due);
+        outcomes::compare(seen, runs_answer(file, first, second, row), due, true);
         return;
     }
     if line.word == case_words::RACES {
-        typed(seen, races_answer(file, table, first, second, row), due);
+        outcomes::compare(
+            seen,
+            races_answer(file, table, first, second, row),
+            due,
+            true,
+        );
         return;
     }
     if line.word == case_words::CANONICAL {
-        typed(seen, canonical_answer(file, output, row), due);
+        outcomes::compare(seen, canonical_answer(file, output, row), due, true);
         return;
     }
     if line.word == case_words::BEGINNING {
         beginning_line(seen, first, second, row, due);
         return;
     }
+    outcomes::expect(seen, false);
 }

@@ -88,7 +88,7 @@ fn put_numbers(list: &mut [u16; LIST], line: Line) {
     }
 }
 
-// Puts numbers into lent memory, or looks at it.
+// Puts numbers into lent memory, or looks at it; a word of which nothing is known here is a mismatch.
 fn look(
     seen: &mut [u64; SEEN],
     table: &[u16; TABLE],
@@ -121,6 +121,7 @@ fn look(
         typed_calls::looked(seen, has_bytes(output, line));
         return;
     }
+    outcomes::expect(seen, false);
 }
 
 // The lines
@@ -154,12 +155,25 @@ fn obey(
     output: &mut [u8; OUTPUT],
     line: Line,
 ) -> usize {
+    let by = case_words::obeyed_by(line.word);
     note_line(seen, line);
-    typed_calls::read_at_once(seen, file, line);
-    let lent = case_files::change_file(file, size, line);
-    call_on(seen, file, lent, table, first, second, output, line);
-    look(seen, table, first, second, output, line);
-    lent
+    if by == case_words::OF_FILE {
+        return case_files::change_file(file, size, line);
+    }
+    if by == case_words::READ_AT_ONCE {
+        typed_calls::read_at_once(seen, file, line);
+        return size;
+    }
+    if by == case_words::CALL {
+        call_on(seen, file, size, table, first, second, output, line);
+        return size;
+    }
+    if by == case_words::OF_MEMORY {
+        look(seen, table, first, second, output, line);
+        return size;
+    }
+    outcomes::expect(seen, line.word == case_words::NOTHING);
+    size
 }
 
 // The lines of a text, one after the other.

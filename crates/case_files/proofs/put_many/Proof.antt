@@ -49,11 +49,11 @@ array-read-worker-2 c = search needs
 add-worker : tie.Need-add-worker Inv-loop μ-loop
 add-worker c = search needs
 
-array-read-number-2 : tie.Need-array-read-number-2 Inv-loop μ-loop
-array-read-number-2 c = search needs
+array-read-sum : tie.Need-array-read-sum Inv-loop μ-loop
+array-read-sum c = search needs
 
-add-number : tie.Need-add-number Inv-loop μ-loop
-add-number c = search needs
+sum-requires : tie.Need-sum-requires Inv-loop μ-loop
+sum-requires c κs = search needs
 
 add-i : tie.Need-add-i Inv-loop μ-loop
 add-i c = search needs
@@ -86,8 +86,8 @@ put-many-spec =
     add-k
     array-read-worker-2
     add-worker
-    array-read-number-2
-    add-number
+    array-read-sum
+    sum-requires
     add-i
     loop-less
     loop-again

@@ -13,6 +13,18 @@ abbrev μ-loop : tie.MeasureT-loop
 operations-requires : tie.Need-operations-requires Inv-loop μ-loop
 operations-requires c κs = search needs
 
+cast-order-answer : tie.Need-cast-order-answer Inv-loop μ-loop
+cast-order-answer c = search needs
+
+order-answer-requires : tie.Need-order-answer-requires Inv-loop μ-loop
+order-answer-requires c κs = search needs
+
+refusal-requires : tie.Need-refusal-requires Inv-loop μ-loop
+refusal-requires c κs = search needs
+
+compare-requires : tie.Need-compare-requires Inv-loop μ-loop
+compare-requires c κs = search needs
+
 loop-holds : tie.Need-loop-holds Inv-loop μ-loop
 loop-holds c = search needs
 
@@ -34,11 +46,8 @@ cast-b c = search needs
 pair-call-requires : tie.Need-pair-call-requires Inv-loop μ-loop
 pair-call-requires c κs = search needs
 
-partner-requires : tie.Need-partner-requires Inv-loop μ-loop
-partner-requires c κs = search needs
-
-pair-call-requires-2 : tie.Need-pair-call-requires-2 Inv-loop μ-loop
-pair-call-requires-2 c κs = search needs
+conflict-call-requires : tie.Need-conflict-call-requires Inv-loop μ-loop
+conflict-call-requires c κs = search needs
 
 next-requires-2 : tie.Need-next-requires-2 Inv-loop μ-loop
 next-requires-2 c κs = search needs
@@ -62,6 +71,10 @@ pair-calls-spec =
     Inv-loop
     μ-loop
     operations-requires
+    cast-order-answer
+    order-answer-requires
+    refusal-requires
+    compare-requires
     loop-holds
     next-requires
     below-requires
@@ -69,8 +82,7 @@ pair-calls-spec =
     below-requires-2
     cast-b
     pair-call-requires
-    partner-requires
-    pair-call-requires-2
+    conflict-call-requires
     next-requires-2
     add-i
     loop-less

@@ -1,8 +1,8 @@
 -- `random_traces` is safe and ends. Assumes nothing.
 use Prim.Native.Nat.{_-_}
 use borrow.Author.Needs.{needs}
-use Rattle.comparison.proofs.random_traces.Statement.{statement}
-use Rattle.comparison.proofs.random_traces.Tie as tie
+use Rattle.small_cases.proofs.random_traces.Statement.{statement}
+use Rattle.small_cases.proofs.random_traces.Tie as tie
 
 abbrev Inv-loop : tie.InvT-loop
 Inv-loop seen₀ count seed₀ i₀ seen seed i = Unit {0}

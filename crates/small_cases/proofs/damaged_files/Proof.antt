@@ -1,8 +1,8 @@
--- `random_lists` is safe and ends. Assumes nothing.
+-- `damaged_files` is safe and ends. Assumes nothing.
 use Prim.Native.Nat.{_-_}
 use borrow.Author.Needs.{needs}
-use Rattle.comparison.proofs.random_lists.Statement.{statement}
-use Rattle.comparison.proofs.random_lists.Tie as tie
+use Rattle.small_cases.proofs.damaged_files.Statement.{statement}
+use Rattle.small_cases.proofs.damaged_files.Tie as tie
 
 abbrev Inv-loop : tie.InvT-loop
 Inv-loop seen₀ count seed₀ i₀ seen seed i = Unit {0}
@@ -16,8 +16,14 @@ loop-holds c = search needs
 next-requires : tie.Need-next-requires Inv-loop μ-loop
 next-requires c κs = search needs
 
-beginning-case-requires : tie.Need-beginning-case-requires Inv-loop μ-loop
-beginning-case-requires c κs = search needs
+add-next : tie.Need-add-next Inv-loop μ-loop
+add-next c = search needs
+
+next-requires-2 : tie.Need-next-requires-2 Inv-loop μ-loop
+next-requires-2 c κs = search needs
+
+damaged-case-requires : tie.Need-damaged-case-requires Inv-loop μ-loop
+damaged-case-requires c κs = search needs
 
 add-i : tie.Need-add-i Inv-loop μ-loop
 add-i c = search needs
@@ -31,15 +37,17 @@ loop-again c = search needs
 returns : tie.Need-returns Inv-loop μ-loop
 returns c = search needs
 
-pub random-lists-spec : {M : Type 1} → statement M
-random-lists-spec =
+pub damaged-files-spec : {M : Type 1} → statement M
+damaged-files-spec =
     tie.close
     (tie.spec
     Inv-loop
     μ-loop
     loop-holds
     next-requires
-    beginning-case-requires
+    add-next
+    next-requires-2
+    damaged-case-requires
     add-i
     loop-less
     loop-again

@@ -43,13 +43,13 @@ fn judge(seen: &mut [u64; SEEN], file: &[u8], size: usize, way: usize) {
 
 fn trace_case(seen: &mut [u64; SEEN], seed: u64, i: usize) {
     let mut file = [0u8; SIZE];
-    let size = random_files::random_trace(&mut file, seed);
+    let size = random_files::random_trace(&mut file, test_files::PLAIN, seed);
     judge(seen, &file, size, i);
 }
 
 fn damaged_case(seen: &mut [u64; SEEN], seed: u64, i: usize) {
     let mut file = [0u8; SIZE];
-    let size = random_files::random_trace(&mut file, seed);
+    let size = random_files::random_trace(&mut file, test_files::PLAIN, seed);
     let left = random_files::damaged(&mut file, size, random_files::next(seed / 3 + 1));
     judge(seen, &file, left, i);
 }

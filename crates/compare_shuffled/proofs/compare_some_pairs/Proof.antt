@@ -1,8 +1,8 @@
--- `compare_pairs` is safe and ends. Assumes nothing.
+-- `compare_some_pairs` is safe and ends. Assumes nothing.
 use Prim.Native.Nat.{_-_}
 use borrow.Author.Needs.{needs}
-use Rattle.compare_shuffled.proofs.compare_pairs.Statement.{statement}
-use Rattle.compare_shuffled.proofs.compare_pairs.Tie as tie
+use Rattle.compare_shuffled.proofs.compare_some_pairs.Statement.{statement}
+use Rattle.compare_shuffled.proofs.compare_some_pairs.Tie as tie
 
 abbrev Inv-loop : tie.InvT-loop
 Inv-loop seen₀ file other-file renumbered seed n state₀ i₀ seen state i = Unit {0}
@@ -31,11 +31,8 @@ below-requires-2 c κs = search needs
 cast-b : tie.Need-cast-b Inv-loop μ-loop
 cast-b c = search needs
 
-compare-orders-requires : tie.Need-compare-orders-requires Inv-loop μ-loop
-compare-orders-requires c κs = search needs
-
-compare-runs-requires : tie.Need-compare-runs-requires Inv-loop μ-loop
-compare-runs-requires c κs = search needs
+compare-pair-requires : tie.Need-compare-pair-requires Inv-loop μ-loop
+compare-pair-requires c κs = search needs
 
 next-requires-2 : tie.Need-next-requires-2 Inv-loop μ-loop
 next-requires-2 c κs = search needs
@@ -52,8 +49,8 @@ loop-again c = search needs
 returns : tie.Need-returns Inv-loop μ-loop
 returns c = search needs
 
-pub compare-pairs-spec : {M : Type 1} → statement M
-compare-pairs-spec =
+pub compare-some-pairs-spec : {M : Type 1} → statement M
+compare-some-pairs-spec =
     tie.close
     (tie.spec
     Inv-loop
@@ -65,8 +62,7 @@ compare-pairs-spec =
     cast-a
     below-requires-2
     cast-b
-    compare-orders-requires
-    compare-runs-requires
+    compare-pair-requires
     next-requires-2
     add-i
     loop-less
