@@ -54,8 +54,8 @@ fn byte_at(text: &[u8], i: usize) -> u8 {
 }
 
 // The list of words, 17 bytes each: the word in 11; how many numbers stand behind it, of a call those that are lent or
-// passed; '-' where these are all, '+' where more may follow, or of a call how many values there are where none refuses;
-// and who obeys it: the file at hand, what is read at once, a call, or lent memory.
+// passed; '-' where these are all, '+' where more may follow, or of a call how many values there are where none
+// refuses; and who obeys it: the file at hand, what is read at once, a call, or lent memory.
 fn listed(i: usize) -> u8 {
     byte_at(
         b"           0 - -

@@ -152,7 +152,7 @@ fn in_header(file: &[u8], at: usize) -> usize
 }
 
 // Damages the bytes of a file of `size` bytes; how many of them are left, or how many there are with more added. Most
-// changed bytes are any of the file's; some are the worker count, some those of the other fields of the header.
+// changed bytes are any of the file's; some are the worker count, some among the header's other fields or right behind.
 pub fn damaged(file: &mut [u8], size: usize, seed: u64) -> usize {
     let second = next(seed);
     let third = next(second);
