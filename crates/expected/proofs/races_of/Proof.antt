@@ -7,7 +7,8 @@ use Rattle.expected.proofs.races_of.Statement.{statement}
 use Rattle.expected.proofs.races_of.Tie as tie
 
 abbrev Inv-loop : tie.InvT-loop
-Inv-loop file orders lower₀ higher₀ n₀ i₀ lower higher n i = (length lower ≡ length lower₀) × (length higher ≡ length higher₀)
+Inv-loop file orders lower₀ higher₀ n₀ i₀ lower higher n i =
+    (length lower ≡ length lower₀) × (length higher ≡ length higher₀)
 
 abbrev μ-loop : tie.MeasureT-loop
 μ-loop file orders lower₀ higher₀ n₀ i₀ lower higher n i = 64 - i

@@ -7,7 +7,8 @@ use Rattle.large_rows.proofs.put_races_of.Statement.{statement}
 use Rattle.large_rows.proofs.put_races_of.Tie as tie
 
 abbrev Inv-loop : tie.InvT-loop
-Inv-loop file table rank a n lower₀ higher₀ count₀ b₀ b-end lower higher count b = (length lower ≡ length lower₀) × (length higher ≡ length higher₀)
+Inv-loop file table rank a n lower₀ higher₀ count₀ b₀ b-end lower higher count b =
+    (length lower ≡ length lower₀) × (length higher ≡ length higher₀)
 
 abbrev μ-loop : tie.MeasureT-loop
 μ-loop file table rank a n lower₀ higher₀ count₀ b₀ b-end lower higher count b = b-end - b

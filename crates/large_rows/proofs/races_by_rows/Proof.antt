@@ -7,7 +7,8 @@ use Rattle.large_rows.proofs.races_by_rows.Statement.{statement}
 use Rattle.large_rows.proofs.races_by_rows.Tie as tie
 
 abbrev Inv-loop : tie.InvT-loop
-Inv-loop file table rank lower₀ higher₀ count₀ a₀ a-end lower higher count a = (length lower ≡ length lower₀) × (length higher ≡ length higher₀)
+Inv-loop file table rank lower₀ higher₀ count₀ a₀ a-end lower higher count a =
+    (length lower ≡ length lower₀) × (length higher ≡ length higher₀)
 
 abbrev μ-loop : tie.MeasureT-loop
 μ-loop file table rank lower₀ higher₀ count₀ a₀ a-end lower higher count a = a-end - a

@@ -5,10 +5,12 @@ use Rattle.typed_cases.proofs.typed_cases.Statement.{statement}
 use Rattle.typed_cases.proofs.typed_cases.Tie as tie
 
 abbrev Inv-loop : tie.InvT-loop
-Inv-loop seen₀ text file₀ table₀ first₀ second₀ output₀ size₀ at₀ i₀ i-end seen file table first second output size at i = Unit {0}
+Inv-loop seen₀ text file₀ table₀ x₀ y₀ output₀ size₀ at₀ i₀ i-end seen file table x y output size at i =
+    Unit {0}
 
 abbrev μ-loop : tie.MeasureT-loop
-μ-loop seen₀ text file₀ table₀ first₀ second₀ output₀ size₀ at₀ i₀ i-end seen file table first second output size at i = i-end - i
+μ-loop seen₀ text file₀ table₀ x₀ y₀ output₀ size₀ at₀ i₀ i-end seen file table x y output size at i =
+    i-end - i
 
 loop-holds : tie.Need-loop-holds Inv-loop μ-loop
 loop-holds c = search needs
