@@ -1,3 +1,6 @@
--- The laws of the index. For the code: Filling. For callers: Lookups.
+-- The laws of the index. For the code: Filling (the operations by worker), Covering (one worker's list), Listing (all
+-- lists). For callers: Lookups.
 pub mod Filling
+pub mod Covering
+pub mod Listing
 pub mod Lookups

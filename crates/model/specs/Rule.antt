@@ -18,6 +18,10 @@ posts t e y = isPost (operation t y .kind) && eqb (operation t y .number) e
 abbrev pub posted : Trace → ℕ → List ℕ → Bool
 posted t e d = anyOf (posts t e) d
 
+-- does operation x need event e: is it a Wait of e, which may not run before e is posted?
+abbrev pub needs : Trace → ℕ → ℕ → Bool
+needs t e x = isWait (operation t x .kind) && eqb (operation t x .number) e
+
 -- if x is a Wait, is its event posted?
 abbrev pub unblocked : Trace → List ℕ → ℕ → Bool
 unblocked t d x = not (isWait (operation t x .kind)) || posted t (operation t x .number) d

@@ -3,7 +3,7 @@
 -- reads as a trace is like, and the law in both directions), WrittenBytes (each well-formed trace has a file).
 -- FirstNo: which refusal a file gets, and in Refusals which numbers and places there are. LongFiles: files that are
 -- longer than any that reads as a trace.
--- For the code and for callers: Answers. For callers: Outcomes.
+-- For the code and for callers: Answers. For callers: Outcomes, Fitting.
 pub mod LittleEndian
 pub mod Answered
 pub mod WriteRead
@@ -15,3 +15,4 @@ pub mod Answers
 pub mod FirstNo
 pub mod Refusals
 pub mod LongFiles
+pub mod Fitting

@@ -1,0 +1,2 @@
+-- The laws of the set of posted events: EventBits.
+pub mod EventBits

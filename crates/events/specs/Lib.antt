@@ -1,0 +1,2 @@
+-- The set of posted events, a means: Events.
+pub mod Events

@@ -1,0 +1,2 @@
+-- The laws of sets of workers: Sets.
+pub mod Sets

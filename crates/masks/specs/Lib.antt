@@ -1,0 +1,2 @@
+-- Sets of workers, a means: Masks.
+pub mod Masks
