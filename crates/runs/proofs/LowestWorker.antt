@@ -1,9 +1,9 @@
 -- "The lowest-numbered worker whose next operation may run" (document 01, "Two runs"). In order: the first in the
--- canonical order that can be added is of that worker; there is one such operation; one step of a walk; the greedy
+-- canonical order that can be added is of that worker; there is one such operation; several steps; one step of a walk; the greedy
 -- run is the run that lets the lowest-numbered worker go first, and there is one such run.
 use mathlib.Core.Path.{_≡_, refl, ap}
 use mathlib.Core.Bool.{Bool}
-use mathlib.Core.List.{List, [], _∷_, List·Memᴰ·head, List·Memᴰ·tail}
+use mathlib.Core.List.{List, [], _∷_, _++_, List·Memᴰ·head, List·Memᴰ·tail}
 use mathlib.Core.Option.{Option, none, some}
 use Prim.Native.Nat.{ℕ, zero, suc, _≤_}
 use native.Mathlib.Omega.{arith}
@@ -15,7 +15,7 @@ use Rattle.runs.specs.Run.{Run}
 use Rattle.runs.specs.Steps.{Addable, Closed, done, addable}
 use Rattle.runs.specs.Greedy.{Preference, firstThat, foundThen, greedyFrom}
 use Rattle.runs.specs.Workers.{InTurn, count, earlier, Counted, Ascending, up-cons}
-use Rattle.runs.specs.Workers.{LowestAddable, LowestFirst, none-can, moves}
+use Rattle.runs.specs.Workers.{LowestAddable, LowestFirst, none-can, moves, LowestSteps, no-step, one-step}
 use Rattle.runs.proofs.RunSteps.{addable-test}
 use Rattle.runs.proofs.GreedyRuns.{First, found, skip, first, first-passes, first-missing, greedy-from-closed}
 use Rattle.runs.proofs.Counts.{addable-next, counted-add, run-counted, earlier-injective}
@@ -51,6 +51,17 @@ module _ {worker : ℕ → ℕ} {R : Rule} (turn : InTurn R worker) where
       let e = lowest-same c a b in
       let r : LowestFirst worker R (x ∷ d) t = rw e q in
       cc (lowest-first-unique (counted-add worker turn c (a .can)) p r)
+
+-- step by step
+module _ {worker : ℕ → ℕ} {R : Rule} where
+  pub lowest-append : {d s t : List ℕ} → LowestSteps worker R d s → LowestSteps worker R (done d s) t
+      → LowestSteps worker R d (s ++ t)
+  lowest-append no-step q = q
+  lowest-append (one-step a p) q = one-step a (lowest-append p q)
+
+  pub lowest-ends : {d s : List ℕ} → LowestSteps worker R d s → Closed R (done d s) → LowestFirst worker R d s
+  lowest-ends no-step c = none-can c
+  lowest-ends (one-step a p) c = moves a (lowest-ends p c)
 
 module _ {worker : ℕ → ℕ} {R : Rule} {order : List ℕ}
     (up : Ascending worker order) (all : Preference (R .size) order) where

@@ -2,8 +2,8 @@
 -- Follows: document 01, "Trace file", "Order table and order", "Two runs", "Tidy file".
 -- Differs: which worker an operation has is any function of its number; report 1084 says process for worker. One
 -- worker's numbers ascend in its program order, since operations are numbered in file order.
--- `InTurn`, `Counted` and `Ascending` are means, joined to the rest by proofs/ProgramOrder, proofs/Counts and
--- proofs/CanonicalOrder.
+-- `InTurn`, `Counted`, `Ascending` and `LowestSteps` are means, joined to the rest by proofs/ProgramOrder, proofs/Counts,
+-- proofs/CanonicalOrder and proofs/LowestWorker.
 use mathlib.Core.Path.{_≡_}
 use mathlib.Core.Bool.{Bool, not, _||_, cond}
 use mathlib.Core.List.{List, [], _∷_, _++_}
@@ -66,6 +66,12 @@ pub data LowestFirst (worker : ℕ → ℕ) (R : Rule) : List ℕ → List ℕ �
   none-can : {d : List ℕ} → Closed R d → LowestFirst worker R d []
   moves : {d s : List ℕ} {x : ℕ} → LowestAddable worker R d x → LowestFirst worker R (x ∷ d) s
       → LowestFirst worker R d (x ∷ s)
+
+-- the same, not yet until none can
+pub data LowestSteps (worker : ℕ → ℕ) (R : Rule) : List ℕ → List ℕ → Type 0 where
+  no-step : {d : List ℕ} → LowestSteps worker R d []
+  one-step : {d s : List ℕ} {x : ℕ} → LowestAddable worker R d x → LowestSteps worker R (x ∷ d) s
+      → LowestSteps worker R d (x ∷ s)
 
 -- document 01, "Two runs", the run in which b is held back: the lowest-numbered worker first, other than b; "when
 -- none can, b is allowed from there on and the same rule goes on to the end"

@@ -1,0 +1,1 @@
+// No code: what the state of a walk shows, in specs/ and proofs/.
