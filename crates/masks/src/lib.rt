@@ -3,6 +3,7 @@ ghost use Prim.Native.Nat.{ℕ, _<_, _≤_};
 ghost use mathlib.Core.Path.{_≡_};
 ghost use mathlib.Core.Bool.{true};
 ghost use mathlib.Core.Logic.{_↔_};
+ghost use lib.Bits.{bitOr};
 ghost use Rattle.masks.specs.Masks.{_isIn_, Below, With, Without, Lowest, Apart};
 
 // The workers below q.
@@ -35,6 +36,13 @@ pub fn without(set: u16, q: u32) -> u16
     ensures { λ r. ⌜ Without set q r ⌝ }
 {
     set ^ (1u16 << q)
+}
+
+// The workers of two sets.
+pub fn joined(x: u16, y: u16) -> u16
+    ensures { λ r. ⌜ (r ≡ bitOr x y) × (r < 65536) ⌝ }
+{
+    x | y
 }
 
 // Have two sets no worker in common?

@@ -5,7 +5,7 @@ use mathlib.Core.List.{List}
 use mathlib.Core.Logic.{_⊎_, inl, inr, _≢_}
 use mathlib.Core.Path.{_≡_, refl, sym, _∙_}
 use native.Mathlib.Omega.{arith}
-use Prim.Native.Nat.{ℕ, _+_, _<_, _≤_}
+use Prim.Native.Nat.{ℕ, _+_, _%_, _<_, _≤_}
 use lib.Bits.{bitOr}
 use lib.Dec.{eqb}
 use lib.ListN.{length, getD, set}
@@ -79,7 +79,7 @@ module _ {list : List ℕ} {q below from end last : ℕ} (low : q < 16) where
 
       -- with the operation of the entry, and no more
       pub along-one : Along list q below from end last events waiting (withPost events′ (event (getD list at 0)))
-          (set waiting′ (event (getD list at 0)) 0) (at + 1) (ahead (getD list at 0) + 1)
+          (set waiting′ (event (getD list at 0)) 0) (at + 1) ((ahead (getD list at 0) + 1) % 65536)
           (bitOr freed (getD waiting′ (event (getD list at 0)) 0))
       along-one =
           record {
@@ -94,11 +94,12 @@ module _ {list : List ℕ} {q below from end last : ℕ} (low : q < 16) where
           moved : (t : Trace) (a : ℕ) (r counts : List ℕ) → EndsRun t a r counts events
               → Follows t a list q from end last (getD counts q 0)
               → Moved t a list q end last r counts (withPost events′ (event (getD list at 0))) (at + 1)
-              (ahead (getD list at 0) + 1)
+              ((ahead (getD list at 0) + 1) % 65536)
           moved t a r counts e go =
               let m = rw same at (x .moved t a r counts e go) in
               let s = go .each at (x .from-on) h in
-              record {
+              let fits : (ahead (getD list at 0) + 1) % 65536 ≡ ahead (getD list at 0) + 1 = omega (arith, s .few) in
+              rw fits (record {
                 run = gone-more t a q low r counts (m .on) (m .run) (s .below) (s .other)
                     (step-free (s .tells) events′ free)
                     (step-posted (s .tells) events′ (x .released .words) free);
@@ -109,16 +110,18 @@ module _ {list : List ℕ} {q below from end last : ℕ} (low : q < 16) where
                   ending = go .ending;
                 };
                 on = omega (arith, m .on);
-              }
+              })
 
           lowest : (t : Trace) (a : ℕ) (r counts : List ℕ) → EndsRun t a r counts events
               → Follows t a list q from end last (getD counts q 0) → LowerStopped t a q below counts events waiting
-              → Lowest t a q r counts (ahead (getD list at 0) + 1)
+              → Lowest t a q r counts ((ahead (getD list at 0) + 1) % 65536)
           lowest t a r counts e go y =
               let m = rw same at (x .moved t a r counts e go) in
               let s = go .each at (x .from-on) h in
-              lowest-more t a q low r counts (m .on) (m .run) (s .below) (s .other) (step-free (s .tells) events′ free)
-              (blocked y) (rw same at (x .lowest t a r counts e go y))
+              let fits : (ahead (getD list at 0) + 1) % 65536 ≡ ahead (getD list at 0) + 1 = omega (arith, s .few) in
+              rw fits
+              (lowest-more t a q low r counts (m .on) (m .run) (s .below) (s .other) (step-free (s .tells) events′ free)
+              (blocked y) (rw same at (x .lowest t a r counts e go y)))
 
       -- and those up to the next entry, where no worker is freed that goes first
       pub along-step : Apart (getD waiting′ (event (getD list at 0)) 0) below
@@ -161,7 +164,7 @@ module _ {list : List ℕ} {q below from end last : ℕ} (low : q < 16) where
 
       pub along-yield : {freed′ : ℕ} → With (bitOr freed (getD waiting′ (event (getD list at 0)) 0)) q freed′
           → Went list q below from end last events waiting (withPost events′ (event (getD list at 0)))
-          (set waiting′ (event (getD list at 0)) 0) (at + 1) (ahead (getD list at 0) + 1) freed′
+          (set waiting′ (event (getD list at 0)) 0) (at + 1) ((ahead (getD list at 0) + 1) % 65536) freed′
       along-yield w =
           record {
             along = record {

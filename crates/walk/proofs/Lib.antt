@@ -2,3 +2,4 @@
 pub mod Stretches
 pub mod Releasing
 pub mod Along
+pub mod Turns
