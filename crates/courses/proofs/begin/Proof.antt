@@ -1,0 +1,102 @@
+use Rattle.courses.proofs.begin.Statement.{statement}
+use Rattle.courses.proofs.begin.Tie as tie
+use Rattle.courses.proofs.begin.Reads as reads
+use Rattle.courses.proofs.begin.Lts as lts
+
+abbrev Inv-loop : tie.InvT-loop
+Inv-loop starts nexts₀ lasts₀ q₀ nexts lasts q = ?
+
+abbrev μ-loop : tie.MeasureT-loop
+μ-loop starts nexts₀ lasts₀ q₀ nexts lasts q = ?
+
+-- src/lib.rt:24:5
+loop-holds : tie.Need-loop-holds Inv-loop μ-loop
+loop-holds c = ?
+
+-- src/lib.rt:25:20
+mul-nexts : tie.Need-mul-nexts Inv-loop μ-loop
+mul-nexts c = ?
+
+-- src/lib.rt:25:20
+element-copy-out-nexts : tie.Need-element-copy-out-nexts Inv-loop μ-loop
+element-copy-out-nexts c = ?
+
+-- src/lib.rt:25:9
+mul-nexts-2 : tie.Need-mul-nexts-2 Inv-loop μ-loop
+mul-nexts-2 c = ?
+
+-- src/lib.rt:25:9
+element-write-nexts : tie.Need-element-write-nexts Inv-loop μ-loop
+element-write-nexts c = ?
+
+-- src/lib.rt:26:27
+add-lasts : tie.Need-add-lasts Inv-loop μ-loop
+add-lasts c = ?
+
+-- src/lib.rt:26:20
+mul-lasts : tie.Need-mul-lasts Inv-loop μ-loop
+mul-lasts c = ?
+
+-- src/lib.rt:26:20
+element-copy-out-lasts : tie.Need-element-copy-out-lasts Inv-loop μ-loop
+element-copy-out-lasts c = ?
+
+-- src/lib.rt:26:36
+mul-lasts-2 : tie.Need-mul-lasts-2 Inv-loop μ-loop
+mul-lasts-2 c = ?
+
+-- src/lib.rt:26:36
+element-copy-out-lasts-2 : tie.Need-element-copy-out-lasts-2 Inv-loop μ-loop
+element-copy-out-lasts-2 c = ?
+
+-- src/lib.rt:26:20
+sub-lasts : tie.Need-sub-lasts Inv-loop μ-loop
+sub-lasts c = ?
+
+-- src/lib.rt:26:9
+mul-lasts-3 : tie.Need-mul-lasts-3 Inv-loop μ-loop
+mul-lasts-3 c = ?
+
+-- src/lib.rt:26:9
+element-write-lasts : tie.Need-element-write-lasts Inv-loop μ-loop
+element-write-lasts c = ?
+
+-- src/lib.rt:27:9
+add-q : tie.Need-add-q Inv-loop μ-loop
+add-q c = ?
+
+-- src/lib.rt:24:5
+loop-less : tie.Need-loop-less Inv-loop μ-loop
+loop-less c = ?
+
+-- src/lib.rt:24:5
+loop-again : tie.Need-loop-again Inv-loop μ-loop
+loop-again c = ?
+
+-- src/lib.rt:17:1
+returns : tie.Need-returns Inv-loop μ-loop
+returns c = ?
+
+pub begin-spec : {M : Type 1} → statement M
+begin-spec =
+    tie.close
+    (tie.spec
+    Inv-loop
+    μ-loop
+    loop-holds
+    mul-nexts
+    element-copy-out-nexts
+    mul-nexts-2
+    element-write-nexts
+    add-lasts
+    mul-lasts
+    element-copy-out-lasts
+    mul-lasts-2
+    element-copy-out-lasts-2
+    sub-lasts
+    mul-lasts-3
+    element-write-lasts
+    add-q
+    loop-less
+    loop-again
+    returns)

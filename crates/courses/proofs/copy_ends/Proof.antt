@@ -1,0 +1,62 @@
+use Rattle.courses.proofs.copy_ends.Statement.{statement}
+use Rattle.courses.proofs.copy_ends.Tie as tie
+use Rattle.courses.proofs.copy_ends.Reads as reads
+use Rattle.courses.proofs.copy_ends.Lts as lts
+
+abbrev Inv-loop : tie.InvT-loop
+Inv-loop ends stops₀ q₀ stops q = ?
+
+abbrev μ-loop : tie.MeasureT-loop
+μ-loop ends stops₀ q₀ stops q = ?
+
+-- src/lib.rt:37:5
+loop-holds : tie.Need-loop-holds Inv-loop μ-loop
+loop-holds c = ?
+
+-- src/lib.rt:38:20
+mul-stops : tie.Need-mul-stops Inv-loop μ-loop
+mul-stops c = ?
+
+-- src/lib.rt:38:20
+element-copy-out-stops : tie.Need-element-copy-out-stops Inv-loop μ-loop
+element-copy-out-stops c = ?
+
+-- src/lib.rt:38:9
+mul-stops-2 : tie.Need-mul-stops-2 Inv-loop μ-loop
+mul-stops-2 c = ?
+
+-- src/lib.rt:38:9
+element-write-stops : tie.Need-element-write-stops Inv-loop μ-loop
+element-write-stops c = ?
+
+-- src/lib.rt:39:9
+add-q : tie.Need-add-q Inv-loop μ-loop
+add-q c = ?
+
+-- src/lib.rt:37:5
+loop-less : tie.Need-loop-less Inv-loop μ-loop
+loop-less c = ?
+
+-- src/lib.rt:37:5
+loop-again : tie.Need-loop-again Inv-loop μ-loop
+loop-again c = ?
+
+-- src/lib.rt:32:1
+returns : tie.Need-returns Inv-loop μ-loop
+returns c = ?
+
+pub copy-ends-spec : {M : Type 1} → statement M
+copy-ends-spec =
+    tie.close
+    (tie.spec
+    Inv-loop
+    μ-loop
+    loop-holds
+    mul-stops
+    element-copy-out-stops
+    mul-stops-2
+    element-write-stops
+    add-q
+    loop-less
+    loop-again
+    returns)

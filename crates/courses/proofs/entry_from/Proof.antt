@@ -1,0 +1,63 @@
+use Rattle.courses.proofs.entry_from.Statement.{statement}
+use Rattle.courses.proofs.entry_from.Tie as tie
+use Rattle.courses.proofs.entry_from.Reads as reads
+use Rattle.courses.proofs.entry_from.Lts as lts
+use Rattle.courses.proofs.count_before.Reads as count-before-reads
+
+abbrev Inv-loop : tie.InvT-loop
+Inv-loop list from end rank s₀ s = ?
+
+abbrev μ-loop : tie.MeasureT-loop
+μ-loop list from end rank s₀ s = ?
+
+-- src/lib.rt:56:5
+loop-holds : tie.Need-loop-holds Inv-loop μ-loop
+loop-holds c = ?
+
+-- src/lib.rt:57:33
+mul-count-before : tie.Need-mul-count-before Inv-loop μ-loop
+mul-count-before c = ?
+
+-- src/lib.rt:57:33
+element-copy-out-count-before : tie.Need-element-copy-out-count-before Inv-loop μ-loop
+element-copy-out-count-before c = ?
+
+-- src/lib.rt:57:20
+count-before-requires : tie.Need-count-before-requires Inv-loop μ-loop
+count-before-requires c κs = ?
+
+-- src/lib.rt:58:13
+returns : tie.Need-returns Inv-loop μ-loop
+returns c = ?
+
+-- src/lib.rt:60:9
+add-s : tie.Need-add-s Inv-loop μ-loop
+add-s c = ?
+
+-- src/lib.rt:56:5
+loop-less : tie.Need-loop-less Inv-loop μ-loop
+loop-less c = ?
+
+-- src/lib.rt:56:5
+loop-again : tie.Need-loop-again Inv-loop μ-loop
+loop-again c = ?
+
+-- src/lib.rt:51:1
+returns-2 : tie.Need-returns-2 Inv-loop μ-loop
+returns-2 c = ?
+
+pub entry-from-spec : {M : Type 1} → statement M
+entry-from-spec =
+    tie.close
+    (tie.spec
+    Inv-loop
+    μ-loop
+    loop-holds
+    mul-count-before
+    element-copy-out-count-before
+    count-before-requires
+    returns
+    add-s
+    loop-less
+    loop-again
+    returns-2)

@@ -1,0 +1,58 @@
+-- Where a walk starts: each worker at the start of its list, all of it before it, or up to an operation that is left out.
+-- Follows: nothing in the documents. A means.
+use mathlib.Core.List.{List}
+use mathlib.Core.Path.{_≡_}
+use Prim.Native.Nat.{ℕ, _+_, _-_, _<_, _≤_}
+use lib.ListN.{length, getD, set}
+use Rattle.runs.specs.Workers.{earlier}
+use Rattle.trace.specs.Premises.{Fits}
+use Rattle.trace.specs.Trace.{Trace, size, workerOf}
+use Rattle.index.specs.Steps.{ahead, Follows, Listed}
+use Rattle.states.specs.States.{Exhausted}
+
+-- the lists lie inside the array, and the parts are in order
+pub record Opens (starts ends : List ℕ) : Type 0 where
+  pub each : (q : ℕ) → q < 16
+      → (getD starts q 0 ≤ getD ends q 0) × (getD ends q 0 ≤ 1024) × (getD starts q 0 ≤ getD starts (q + 1) 0)
+
+-- the workers below q stand at their lists' starts, and have so many operations
+pub record Begun (starts nexts lasts : List ℕ) (q : ℕ) : Type 0 where
+  pub upto : q ≤ 16
+  pub places : length nexts ≡ 16
+  pub counts : length lasts ≡ 16
+  pub each : (r : ℕ) → r < q
+      → (getD nexts r 0 ≡ getD starts r 0) × (getD lasts r 0 ≡ getD starts (r + 1) 0 - getD starts r 0)
+
+-- the first entry from `from` on, up to `end`, that does not stand before the operation of this rank
+pub record Entry (list : List ℕ) (from end rank s : ℕ) : Type 0 where
+  pub from-on : from ≤ s
+  pub up-to : s ≤ end
+  pub before : (j : ℕ) → from ≤ j → j < s → ahead (getD list j 0) < rank
+  pub past : s < end → rank ≤ ahead (getD list s 0)
+
+-- each worker's list, without a
+pub record Courses (t : Trace) (a : ℕ) (starts list ends lasts : List ℕ) : Type 0 where
+  pub each : (q : ℕ) → q < 16
+      → Follows t a list q (getD starts q 0) (getD ends q 0) (getD lasts q 0) 0
+
+-- worker q's list ends at entry s, before the operation of this rank
+pub record Cut (list starts ends lasts : List ℕ) (q rank : ℕ) (ends′ lasts′ : List ℕ) : Type 0 where
+  pub at : ℕ
+  pub entry : Entry list (getD starts q 0) (getD ends q 0) rank at
+  pub stops : ends′ ≡ set ends q at
+  pub counts : lasts′ ≡ set lasts q rank
+
+-- a is the operation of worker q with this many earlier ones, in a trace of p workers whose lists these are
+pub record LeftOut (t : Trace) (p : ℕ) (starts list ends : List ℕ) (q rank a : ℕ) : Type 0 where
+  pub fits : Fits t
+  pub workers : t .workers ≡ p
+  pub listed : Listed t starts list ends
+  pub below : a < size t
+  pub own : workerOf t a ≡ q
+  pub ahead : earlier (workerOf t) a ≡ rank
+
+-- these counts are those at the end of a walk without a
+pub record Ended (t : Trace) (a : ℕ) (counts : List ℕ) : Type 0 where
+  pub run : List ℕ
+  pub events : List ℕ
+  pub exhausted : Exhausted t a run counts events

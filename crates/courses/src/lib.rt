@@ -1,0 +1,84 @@
+// Where a walk starts, with nothing left out or without an operation, and what its end tells. For the crates above,
+// which have read the file and filled its index before.
+ghost use mathlib.Core.List.{List};
+ghost use mathlib.Core.Path.{_≡_};
+ghost use Prim.Native.Nat.{ℕ, _+_, _-_, _<_, _≤_};
+ghost use lib.ListN.{length, getD};
+ghost use Rattle.trace.specs.Premises.{Fits};
+ghost use Rattle.trace.specs.Trace.{Trace, size};
+ghost use Rattle.index.specs.Indexed.{Indexed};
+ghost use Rattle.index.specs.Steps.{ahead, Listed};
+ghost use Rattle.index.specs.Filling.{Copied};
+ghost use Rattle.states.specs.States.{Exhausted, nextOf, lowestLeft};
+ghost use Rattle.courses.specs.Courses.{Opens, Begun, Entry, Cut, LeftOut, Ended};
+use walk::Walk;
+
+// Each worker at the start of its list, and how many operations it has.
+pub fn begin(starts: &[u16; 17], nexts: &mut [u16; 16], lasts: &mut [u16; 16])
+    requires { ⌜ ((q : ℕ) → q < 16 → getD (now starts) q 0 ≤ getD (now starts) (q + 1) 0)
+        × (length (now nexts) ≡ 16)
+        × (length (now lasts) ≡ 16) ⌝ }
+    ensures { λ r. ⌜ Begun (now (starts .entry)) (now (nexts .exit)) (now (lasts .exit)) 16 ⌝ }
+{
+    let mut q: usize = 0;
+    while q < 16 {
+        nexts[q] = starts[q];
+        lasts[q] = starts[q + 1] - starts[q];
+        q += 1;
+    }
+}
+
+// Where each worker's list ends.
+fn copy_ends(ends: &[u16; 16], stops: &mut [u16; 16])
+    requires { ⌜ length (now stops) ≡ 16 ⌝ }
+    ensures { λ r. ⌜ Copied (now (ends .entry)) (now (stops .exit)) 16 ⌝ }
+{
+    let mut q: usize = 0;
+    while q < 16 {
+        stops[q] = ends[q];
+        q += 1;
+    }
+}
+
+// How many of its worker's operations come before the step of an entry.
+fn count_before(x: u32) -> u32
+    ensures { λ r. ⌜ r ≡ ahead x ⌝ }
+{
+    x / 65536
+}
+
+// The first entry of a list, from `from` on, that does not stand before the operation of this rank.
+fn entry_from(list: &[u32; 1024], from: usize, end: usize, rank: u32) -> usize
+    requires { ⌜ (from ≤ «end») × («end» ≤ 1024) ⌝ }
+    ensures { λ r. ⌜ Entry (now (list .entry)) from «end» rank r ⌝ }
+{
+    let mut s = from;
+    while s < end {
+        if rank <= count_before(list[s]) {
+            return s;
+        }
+        s += 1;
+    }
+    s
+}
+
+// Worker q's list ends before its operation of this rank.
+fn cut(
+    list: &[u32; 1024],
+    starts: &[u16; 17],
+    q: usize,
+    rank: u16,
+    stops: &mut [u16; 16],
+    lasts: &mut [u16; 16],
+)
+    requires { ⌜ (q < 16)
+        × (getD (now starts) q 0 ≤ getD (now stops) q 0)
+        × (getD (now stops) q 0 ≤ 1024) ⌝ }
+    ensures { λ r. ⌜ Cut (now (list .entry)) (now (starts .entry)) (now (stops .entry)) (now (lasts .entry)) q rank
+        (now (stops .exit)) (now (lasts .exit)) ⌝ }
+{
+    let from = basics::index(starts[q]);
+    let end = basics::index(stops[q]);
+    stops[q] = entry_from(list, from, end, basics::wide(rank)) as u16;
+    lasts[q] = rank;
+}
