@@ -3,9 +3,10 @@
 use mathlib.Core.List.{List, []}
 use mathlib.Core.Logic.{_⊎_, inl, inr, _↔_}
 use mathlib.Core.Path.{_≡_, refl}
+use native.Mathlib.Nat.{sub-zero, zero-mul, zero-add}
 use native.Mathlib.Omega.{arith}
-use Prim.Native.Nat.{ℕ, _<_, _≤_}
-use lib.ListN.{length}
+use Prim.Native.Nat.{ℕ, _+_, _*_, _-_, _<_, _≤_}
+use lib.ListN.{length, take}
 use lib.Seq.{length-take-le}
 use borrow.Author.Tests.{lt-ltb, le-ltb}
 use Rattle.basics.proofs.Booleans.{less?}
@@ -104,6 +105,17 @@ module _ (first second : List ℕ) (chosen other : ℕ) where
   -- ---- the call
 
   module _ {atFirst atSecond : ℕ × ℕ} where
+    -- the part of the list from 0 to n, where a number takes two bytes
+    pub call-first : {n : ℕ} → prefixOf first second chosen other ≡ OfFirst n
+        → BeginningCall first second chosen other atFirst atSecond (take (n - 0) first)
+        (atFirst .0, 0 * 2 + atFirst .1)
+    call-first e = record { holds = rw (e, sub-zero); starts = rw (e, zero-mul, zero-add) }
+
+    pub call-second : {n : ℕ} → prefixOf first second chosen other ≡ OfSecond n
+        → BeginningCall first second chosen other atFirst atSecond (take (n - 0) second)
+        (atSecond .0, 0 * 2 + atSecond .1)
+    call-second e = record { holds = rw (e, sub-zero); starts = rw (e, zero-mul, zero-add) }
+
     -- what the call returns is the part that document 01 says, where that starts
     pub call-returned : {numbers : List ℕ} {start : ℕ × ℕ} {x : Part} → Returned first second chosen other x
         → BeginningCall first second chosen other atFirst atSecond numbers start

@@ -1,13 +1,12 @@
 -- The index of a first appearance. In order: at a list's head; in a list of two parts; whether it appears;
--- a list that is cut there; the search.
+-- a list that is cut there; a search.
 use mathlib.Core.List.{List, [], _∷_, _++_, append-nil, List·Memᴰ·head, List·Memᴰ·tail, List·Memᴰ·not-nil}
 use mathlib.Core.Logic.{_⊎_, inl, inr, _↔_, _≢_}
 use mathlib.Core.Path.{_≡_, refl, sym, _∙_, ap}
-use native.Mathlib.Numerals.{add-one}
 use native.Mathlib.Omega.{arith}
-use Prim.Native.Nat.{ℕ, suc, _+_, _<_, _≤_}
+use Prim.Native.Nat.{ℕ, zero, suc, _+_, _<_, _≤_}
 use lib.ListN.{length, drop, getD, length-append}
-use lib.Seq.{drop-cons, drop-length}
+use lib.Seq.{drop-cons}
 use borrow.Author.Tests.{eq-eqb, ne-eqb}
 use Rattle.basics.specs.Membership.{_∈_, _∉_}
 use Rattle.basics.proofs.Booleans.{equal?}
@@ -91,34 +90,41 @@ module _ {x : ℕ} {list : List ℕ} (k : CutAtFirst x list) where
       → firstIndex list y ≡ length (k .before) + suc (firstIndex (k .rest) y)
   index-behind {y} n d = omega (arith, index-split y, index-past (x ∷ k .rest) (k .before) n, index-tail (k .rest) d)
 
--- ---- the search: x does not appear in the first i numbers
+-- ---- a search: x does not appear in the first i numbers
 
-pub record Searched (list : List ℕ) (x i : ℕ) : Type 0 where
-  pub seen : i ≤ length list
-  pub left : firstIndex list x ≡ i + firstIndex (drop i list) x
+index-fits : (list : List ℕ) (x : ℕ) → firstIndex list x ≤ length list
+unfolding firstIndex
+index-fits [] x = omega arith
+index-fits (y ∷ l) x = go (equal? y x) (index-fits l x)
+  where
+    go : (y ≡ x) ⊎ (y ≢ x) → firstIndex l x ≤ length l → firstIndex (y ∷ l) x ≤ suc (length l)
+    go (inl e) h = omega (arith, index-head l e)
+    go (inr n) h = omega (arith, index-tail l n)
 
-pub searched-none : (list : List ℕ) (x : ℕ) → Searched list x 0
-searched-none list x = record { seen = omega arith; left = omega arith }
+-- what is left to search
+index-left : (list : List ℕ) (x i : ℕ) → i ≤ firstIndex list x → firstIndex list x ≡ i + firstIndex (drop i list) x
+unfolding firstIndex
+index-left list x zero s = omega arith
+index-left [] x (suc i) s = absurd (omega arith)
+index-left (y ∷ l) x (suc i) s = go (equal? y x) (index-left l x i)
+  where
+    go : (y ≡ x) ⊎ (y ≢ x) → (i ≤ firstIndex l x → firstIndex l x ≡ i + firstIndex (drop i l) x)
+        → firstIndex (y ∷ l) x ≡ suc i + firstIndex (drop i l) x
+    go (inl e) h = absurd (omega (arith, index-head l e))
+    go (inr n) h = let tail = index-tail l n in omega (arith, tail, h (omega arith))
 
-module _ {list : List ℕ} {x i : ℕ} (s : Searched list x i) where
-  pub searched-more : i < length list → getD list i 0 ≢ x → Searched list x (i + 1)
-  searched-more l n = record { seen = omega arith; left = omega (arith, s .left, step) }
+module _ (list : List ℕ) (x i : ℕ) (s : i ≤ firstIndex list x) where
+  pub index-later : i < length list → getD list i 0 ≢ x → i + 1 ≤ firstIndex list x
+  index-later l n = omega (arith, index-left list x i s, step)
     where
-      step : firstIndex (drop i list) x ≡ suc (firstIndex (drop (i + 1) list) x)
-      step = rw (drop-cons list i 0 l, add-one) (index-tail (drop (suc i) list) n)
+      step : firstIndex (drop i list) x ≡ suc (firstIndex (drop (suc i) list) x)
+      step = rw (drop-cons list i 0 l) (index-tail (drop (suc i) list) n)
 
-  pub searched-found : i < length list → getD list i 0 ≡ x → i ≡ firstIndex list x
-  searched-found l e = omega (arith, s .left, at-head)
+  pub index-here : i < length list → getD list i 0 ≡ x → i ≡ firstIndex list x
+  index-here l e = omega (arith, index-left list x i s, at-head)
     where
       at-head : firstIndex (drop i list) x ≡ 0
       at-head = rw (drop-cons list i 0 l) (index-head (drop (suc i) list) e)
 
-  pub searched-all : length list ≤ i → i ≡ firstIndex list x
-  unfolding firstIndex
-  searched-all l = omega (arith, s .left, none)
-    where
-      full : i ≡ length list
-      full = omega (arith, s .seen)
-
-      none : firstIndex (drop i list) x ≡ 0
-      none = rw (full, drop-length list)
+  pub index-none : length list ≤ i → i ≡ firstIndex list x
+  index-none l = omega (arith, index-fits list x)

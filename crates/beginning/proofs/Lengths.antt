@@ -1,11 +1,11 @@
--- How long a list's beginning is. In order: by the first appearances of the two numbers; against what document 01
--- calls the beginning.
+-- How long a list's beginning is. In order: by the first appearances of the two numbers; by a search; how long it is
+-- at most; against what document 01 calls the beginning.
 use mathlib.Core.List.{List, [], _∷_, _++_}
 use mathlib.Core.Logic.{_⊎_, inl, inr, _↔_, _≢_}
 use mathlib.Core.Path.{_≡_, refl, sym, _∙_, ap}
 use native.Mathlib.Omega.{arith}
 use Prim.Native.Nat.{ℕ, _+_, _<_, _≤_}
-use lib.ListN.{length, take, length-append}
+use lib.ListN.{length, take, getD, length-append}
 use lib.Seq.{take-at, append-snoc}
 use borrow.Author.Tests.{lt-ltb, le-ltb}
 use Rattle.basics.specs.Membership.{_∉_}
@@ -14,22 +14,62 @@ use Rattle.beginning.specs.Returned.{BeginningOf, NoBeginning}
 use Rattle.beginning.specs.Computed.{firstIndex, beginningLength}
 use Rattle.beginning.proofs.Indices.{index-appears, CutAtFirst, cut-at-first, cut-length}
 use Rattle.beginning.proofs.Indices.{index-cut, index-before, index-behind}
+use Rattle.beginning.proofs.Indices.{index-later, index-here, index-none}
 
 -- ---- by the first appearances: `chosen` is first at c, `other` at o
 
 module _ (list : List ℕ) (chosen other : ℕ) where
   module _ {c o : ℕ} (i : c ≡ firstIndex list chosen) (j : o ≡ firstIndex list other) where
-    pub length-found : c < o → o < length list → c + 1 ≡ beginningLength list chosen other
+    length-found : c < o → o < length list → c + 1 ≡ beginningLength list chosen other
     unfolding beginningLength
     length-found h l = rw (← i, ← j, lt-ltb c o h, lt-ltb o (length list) l)
 
-    pub length-without : c < o → length list ≤ o → 0 ≡ beginningLength list chosen other
+    length-without : c < o → length list ≤ o → 0 ≡ beginningLength list chosen other
     unfolding beginningLength
     length-without h l = rw (← i, ← j, lt-ltb c o h, le-ltb o (length list) l)
 
-    pub length-not-after : o ≤ c → 0 ≡ beginningLength list chosen other
+    length-not-after : o ≤ c → 0 ≡ beginningLength list chosen other
     unfolding beginningLength
     length-not-after h = rw (← i, ← j, le-ltb c o h)
+
+-- ---- the search: neither number appears in the first i numbers
+
+pub record Searched (list : List ℕ) (chosen other i : ℕ) : Type 0 where
+  pub chosen-later : i ≤ firstIndex list chosen
+  pub other-later : i ≤ firstIndex list other
+
+module _ {list : List ℕ} {chosen other i : ℕ} (s : Searched list chosen other i) where
+  pub searched-all : length list ≤ i → 0 ≡ beginningLength list chosen other
+  searched-all l =
+      let c = index-none list chosen i (s .chosen-later) l in
+      let o = index-none list other i (s .other-later) l in
+      length-not-after list chosen other c o (omega arith)
+
+  module _ (l : i < length list) where
+    pub searched-other : getD list i 0 ≡ other → 0 ≡ beginningLength list chosen other
+    searched-other e =
+        length-not-after list chosen other refl (index-here list other i (s .other-later) l e) (s .chosen-later)
+
+    module _ (n : getD list i 0 ≢ other) where
+      pub searched-past : i + 1 ≤ firstIndex list other
+      searched-past = index-later list other i (s .other-later) l n
+
+      pub searched-more : getD list i 0 ≢ chosen → Searched list chosen other (i + 1)
+      searched-more m =
+          record { chosen-later = index-later list chosen i (s .chosen-later) l m; other-later = searched-past }
+
+      -- `chosen` is at i
+      module _ (e : getD list i 0 ≡ chosen) {o : ℕ} (j : o ≡ firstIndex list other) where
+        at-chosen : i ≡ firstIndex list chosen
+        at-chosen = index-here list chosen i (s .chosen-later) l e
+
+        pub searched-found : o < length list → i + 1 ≡ beginningLength list chosen other
+        searched-found h = length-found list chosen other at-chosen j (omega (arith, searched-past)) h
+
+        pub searched-without : length list ≤ o → 0 ≡ beginningLength list chosen other
+        searched-without h = length-without list chosen other at-chosen j (omega (arith, searched-past)) h
+
+-- ---- how long it is at most
 
 -- the list has a beginning
 record Found (list : List ℕ) (chosen other : ℕ) : Type 0 where

@@ -1,5 +1,6 @@
 // The beginning of a run, up to a chosen number, as a part of one of two lent lists.
 ghost use mathlib.Core.Path.{_≡_};
+ghost use Prim.Native.Nat.{_≤_};
 ghost use Rattle.beginning.specs.Computed.{firstIndex, beginningLength, prefixOf, BeginningCall};
 
 // The first numbers of one of the two lists: which list, and how many.
@@ -8,11 +9,12 @@ pub enum Prefix {
     OfSecond { length: usize },
 }
 
-// The index of the first appearance of x, or the list's length where it does not appear.
-fn first_index(list: &[u16], x: u32) -> usize
+// The index of the first appearance of x, which is not before `from`, or the list's length where it does not appear.
+fn first_index(list: &[u16], from: usize, x: u32) -> usize
+    requires { ⌜ from ≤ firstIndex (now list) x ⌝ }
     ensures { λ r. ⌜ r ≡ firstIndex (now (list .entry)) x ⌝ }
 {
-    let mut i = 0;
+    let mut i = from;
     while i < list.len() {
         if basics::wide(list[i]) == x {
             return i;
@@ -23,17 +25,24 @@ fn first_index(list: &[u16], x: u32) -> usize
 }
 
 // How long the part of the list is that ends with the first appearance of `chosen`, where `other` appears after it and
-// not before it; else 0.
+// not before it; else 0. No number of the list is looked at twice.
 fn beginning_length(list: &[u16], chosen: u32, other: u32) -> usize
     ensures { λ r. ⌜ r ≡ beginningLength (now (list .entry)) chosen other ⌝ }
 {
-    let c = first_index(list, chosen);
-    let o = first_index(list, other);
-    if c < o {
-        if o < list.len() {
-            return c + 1;
+    let mut i = 0;
+    while i < list.len() {
+        let x = basics::wide(list[i]);
+        if x == other {
+            return 0;
         }
-        return 0;
+        if x == chosen {
+            let o = first_index(list, i + 1, other);
+            if o < list.len() {
+                return i + 1;
+            }
+            return 0;
+        }
+        i += 1;
     }
     0
 }

@@ -2,12 +2,11 @@
 -- beginning, the part is the empty one of the first list, and starts there too.
 -- Assumes nothing.
 use mathlib.Core.Path.{_≡_, ap, sym, _∙_}
-use native.Mathlib.Nat.{sub-zero, zero-mul, zero-add}
 use native.Mathlib.Omega.{arith}
 use Prim.Native.Nat.{ℕ, _≤_}
 use borrow.Author.Needs.{needs}
 use Rattle.beginning.specs.declared.Prefix.the-variants.{OfFirst}
-use Rattle.beginning.proofs.Beginnings.{prefix-fits}
+use Rattle.beginning.proofs.Beginnings.{prefix-fits, call-first, call-second}
 use Rattle.beginning.proofs.beginning.Statement.{statement}
 use Rattle.beginning.proofs.beginning.Tie as tie
 
@@ -34,8 +33,7 @@ part-result-end c =
 returns : tie.Need-returns
 returns c =
     let c3 = c .before .before .before in
-    let e = sym (c3 .before .before .which-prefix .ensures) ∙ c3 .length .given .1 in
-    record { holds = rw (e, sub-zero); starts = rw (e, zero-mul, zero-add) }
+    call-first _ _ _ _ (sym (c3 .before .before .which-prefix .ensures) ∙ c3 .length .given .1)
 
 sub-result-2 : tie.Need-sub-result-2
 sub-result-2 c = search needs
@@ -63,14 +61,12 @@ returns-2 : tie.Need-returns-2
 returns-2 c =
     let c3 = c .before .before .before in
     let given = sym (c3 .before .before .which-prefix .ensures) ∙ c3 .length .given .1 in
-    let e = given ∙ ap OfFirst (none-left _ (c .before .if1 .left)) in
-    record { holds = rw e; starts = rw (e, zero-mul, zero-add) }
+    call-first _ _ _ _ (given ∙ ap OfFirst (none-left _ (c .before .if1 .left)))
 
 returns-3 : tie.Need-returns-3
 returns-3 c =
     let c2 = c .before .before in
-    let e = sym (c2 .before .before .which-prefix .ensures) ∙ c2 .length2 .given .1 in
-    record { holds = rw (e, sub-zero); starts = rw (e, zero-mul, zero-add) }
+    call-second _ _ _ _ (sym (c2 .before .before .which-prefix .ensures) ∙ c2 .length2 .given .1)
 
 pub beginning-spec : {M : Type 1} → statement M
 beginning-spec =

@@ -2,21 +2,22 @@
 -- Assumes nothing.
 use mathlib.Core.Path.{sym, _∙_}
 use native.Mathlib.Omega.{arith}
-use Prim.Native.Nat.{_-_}
+use Prim.Native.Nat.{_-_, _≤_}
 use lib.ListN.{length}
 use borrow.Author.Needs.{needs}
-use Rattle.beginning.proofs.Indices.{Searched, searched-none, searched-more, searched-found, searched-all}
+use Rattle.beginning.specs.Computed.{firstIndex}
+use Rattle.beginning.proofs.Indices.{index-later, index-here, index-none}
 use Rattle.beginning.proofs.first_index.Statement.{statement}
 use Rattle.beginning.proofs.first_index.Tie as tie
 
 abbrev Inv-loop : tie.InvT-loop
-Inv-loop list x i₀ i = Searched list x i
+Inv-loop list from x i₀ i = i ≤ firstIndex list x
 
 abbrev μ-loop : tie.MeasureT-loop
-μ-loop list x i₀ i = length list - i
+μ-loop list from x i₀ i = length list - i
 
 loop-holds : tie.Need-loop-holds Inv-loop μ-loop
-loop-holds c = searched-none _ _
+loop-holds c = c .before .pre
 
 mul-wide : tie.Need-mul-wide Inv-loop μ-loop
 mul-wide c = search needs
@@ -29,8 +30,9 @@ wide-requires c κs = search needs
 
 returns : tie.Need-returns Inv-loop μ-loop
 returns c =
-    let c4 = c .before .before .before .before in
-    searched-found (c4 .loop .inv) (omega arith) (sym (c .before .wide .ensures .0) ∙ c .if1 .taken)
+    let c3 = c .before .before .before in
+    let here = sym (c .before .wide .ensures .0) ∙ c .if1 .taken in
+    index-here _ _ _ (c3 .before .loop .inv) (c3 .loop-test .taken) here
 
 add-i : tie.Need-add-i Inv-loop μ-loop
 add-i c = search needs
@@ -40,11 +42,12 @@ loop-less c = search needs
 
 loop-again : tie.Need-loop-again Inv-loop μ-loop
 loop-again c =
-    let c4 = c .before .before .before .before in
-    searched-more (c4 .loop .inv) (omega arith) (λ e. c .if1 .left (c .before .wide .ensures .0 ∙ e))
+    let c3 = c .before .before .before in
+    index-later _ _ _ (c3 .before .loop .inv) (c3 .loop-test .taken)
+    (λ e. c .if1 .left (c .before .wide .ensures .0 ∙ e))
 
 returns-2 : tie.Need-returns-2 Inv-loop μ-loop
-returns-2 c = searched-all (c .before .loop .inv) (c .loop-test .left)
+returns-2 c = index-none _ _ _ (c .before .loop .inv) (c .loop-test .left)
 
 pub first-index-spec : {M : Type 1} → statement M
 first-index-spec =
