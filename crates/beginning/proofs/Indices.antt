@@ -92,7 +92,7 @@ module _ {x : ℕ} {list : List ℕ} (k : CutAtFirst x list) where
 
 -- ---- a search: x does not appear in the first i numbers
 
-index-fits : (list : List ℕ) (x : ℕ) → firstIndex list x ≤ length list
+pub index-fits : (list : List ℕ) (x : ℕ) → firstIndex list x ≤ length list
 unfolding firstIndex
 index-fits [] x = omega arith
 index-fits (y ∷ l) x = go (equal? y x) (index-fits l x)

@@ -1,17 +1,21 @@
--- How long a list's beginning is. In order: by the first appearances of the two numbers; by a search; how long it is
--- at most; against what document 01 calls the beginning.
+-- How long a list's beginning is. In order: by the first appearances of the two numbers; by a search; the search by
+-- eights; how long it is at most; against what document 01 calls the beginning.
+use mathlib.Core.Bool.{Bool, true, not, _&&_}
 use mathlib.Core.List.{List, [], _∷_, _++_}
 use mathlib.Core.Logic.{_⊎_, inl, inr, _↔_, _≢_}
 use mathlib.Core.Path.{_≡_, refl, sym, _∙_, ap}
+use native.Mathlib.Nat.{add-assoc, mod-eq-of-lt}
 use native.Mathlib.Omega.{arith}
-use Prim.Native.Nat.{ℕ, _+_, _<_, _≤_}
+use Prim.Native.Nat.{ℕ, _+_, _%_, _<_, _≤_}
+use lib.Dec.{eqb}
 use lib.ListN.{length, take, getD, length-append}
 use lib.Seq.{take-at, append-snoc}
-use borrow.Author.Tests.{lt-ltb, le-ltb}
+use borrow.Author.Tests.{lt-ltb, le-ltb, eqb-false, not-true}
 use Rattle.basics.specs.Membership.{_∉_}
-use Rattle.basics.proofs.Booleans.{less?}
+use Rattle.basics.proofs.Booleans.{less?, both-true}
 use Rattle.beginning.specs.Returned.{BeginningOf, NoBeginning}
 use Rattle.beginning.specs.Computed.{firstIndex, beginningLength}
+use Rattle.beginning.specs.Searched.{Searched}
 use Rattle.beginning.proofs.Indices.{index-appears, CutAtFirst, cut-at-first, cut-length}
 use Rattle.beginning.proofs.Indices.{index-cut, index-before, index-behind}
 use Rattle.beginning.proofs.Indices.{index-later, index-here, index-none}
@@ -34,40 +38,62 @@ module _ (list : List ℕ) (chosen other : ℕ) where
 
 -- ---- the search: neither number appears in the first i numbers
 
-pub record Searched (list : List ℕ) (chosen other i : ℕ) : Type 0 where
-  pub chosen-later : i ≤ firstIndex list chosen
-  pub other-later : i ≤ firstIndex list other
-
 module _ {list : List ℕ} {chosen other i : ℕ} (s : Searched list chosen other i) where
   pub searched-all : length list ≤ i → 0 ≡ beginningLength list chosen other
   searched-all l =
-      let c = index-none list chosen i (s .chosen-later) l in
-      let o = index-none list other i (s .other-later) l in
+      let c = index-none list chosen i (s .x-later) l in
+      let o = index-none list other i (s .y-later) l in
       length-not-after list chosen other c o (omega arith)
 
   module _ (l : i < length list) where
     pub searched-other : getD list i 0 ≡ other → 0 ≡ beginningLength list chosen other
     searched-other e =
-        length-not-after list chosen other refl (index-here list other i (s .other-later) l e) (s .chosen-later)
+        length-not-after list chosen other refl (index-here list other i (s .y-later) l e) (s .x-later)
 
     module _ (n : getD list i 0 ≢ other) where
       pub searched-past : i + 1 ≤ firstIndex list other
-      searched-past = index-later list other i (s .other-later) l n
+      searched-past = index-later list other i (s .y-later) l n
 
       pub searched-more : getD list i 0 ≢ chosen → Searched list chosen other (i + 1)
       searched-more m =
-          record { chosen-later = index-later list chosen i (s .chosen-later) l m; other-later = searched-past }
+          record { x-later = index-later list chosen i (s .x-later) l m; y-later = searched-past }
 
       -- `chosen` is at i
       module _ (e : getD list i 0 ≡ chosen) {o : ℕ} (j : o ≡ firstIndex list other) where
         at-chosen : i ≡ firstIndex list chosen
-        at-chosen = index-here list chosen i (s .chosen-later) l e
+        at-chosen = index-here list chosen i (s .x-later) l e
 
         pub searched-found : o < length list → i + 1 ≡ beginningLength list chosen other
         searched-found h = length-found list chosen other at-chosen j (omega (arith, searched-past)) h
 
         pub searched-without : length list ≤ o → 0 ≡ beginningLength list chosen other
         searched-without h = length-without list chosen other at-chosen j (omega (arith, searched-past)) h
+
+-- ---- the search by eights: `free` says of the first i of them that none is x or y
+
+-- a 16-bit number is compared with the low 16 bits of another
+low-differs : (z x : ℕ) → z < 65536 → not (eqb z (x % 65536)) ≡ true → z ≢ x
+low-differs z x l t e = eqb-false z (x % 65536) (not-true _ t) (e ∙ sym (mod-eq-of-lt small))
+  where
+    small : x < 65536
+    small = omega (arith, e)
+
+module _ {list : List ℕ} {x y : ℕ} (at i : ℕ) {free : Bool} (s : free ≡ true → Searched list x y (at + i)) where
+  pub eight-more : at + i < length list → getD list (at + i) 0 < 65536 → {differs free′ : Bool}
+      → differs ≡ not (eqb (getD list (at + i) 0) (x % 65536)) && not (eqb (getD list (at + i) 0) (y % 65536))
+      → free′ ≡ free && differs → free′ ≡ true → Searched list x y (at + (i + 1))
+  eight-more l small {differs} {free′} e e′ t =
+      let z = getD list (at + i) 0 in
+      let p = both-true free differs (sym e′ ∙ t) in
+      let q = both-true (not (eqb z (x % 65536))) (not (eqb z (y % 65536))) (sym e ∙ p .1) in
+      rw (← add-assoc at i 1) (searched-more (s (p .0)) l (low-differs z y small (q .1)) (low-differs z x small (q .0)))
+
+pub eight-all : {list : List ℕ} {x y : ℕ} (at i : ℕ) → Searched list x y (at + i) → i ≤ 8 → 8 ≤ i
+    → Searched list x y (at + 8)
+eight-all at i s l h = rw (go (omega arith)) at s
+  where
+    go : i ≡ 8 → at + i ≡ at + 8
+    go e = rw e
 
 -- ---- how long it is at most
 

@@ -1,7 +1,10 @@
 // The beginning of a run, up to a chosen number, as a part of one of two lent lists.
 ghost use mathlib.Core.Path.{_≡_};
-ghost use Prim.Native.Nat.{_≤_};
+ghost use mathlib.Core.Bool.{true};
+ghost use Prim.Native.Nat.{_+_, _≤_};
+ghost use lib.ListN.{length};
 ghost use Rattle.beginning.specs.Computed.{firstIndex, beginningLength, prefixOf, BeginningCall};
+ghost use Rattle.beginning.specs.Searched.{Searched};
 
 // The first numbers of one of the two lists: which list, and how many.
 pub enum Prefix {
@@ -9,12 +12,44 @@ pub enum Prefix {
     OfSecond { length: usize },
 }
 
+// Is none of the eight numbers from `at` on x or y? All eight are compared, without a branch.
+fn eight_free(list: &[u16], at: usize, x: u32, y: u32) -> bool
+    requires { ⌜ Searched (now list) x y at × (at + 8 ≤ length (now list)) ⌝ }
+    ensures { λ r. ⌜ (r ≡ true → Searched (now (list .entry)) x y (at + 8)) ⌝ }
+{
+    let low_x = (x % 65536) as u16;
+    let low_y = (y % 65536) as u16;
+    let mut free = true;
+    let mut i = 0;
+    while i < 8 {
+        let z = list[at + i];
+        free = basics::both(free, basics::both(z != low_x, z != low_y));
+        i += 1;
+    }
+    free
+}
+
+// An index, from `from` on by eights, before which neither x nor y appears.
+fn skip(list: &[u16], from: usize, x: u32, y: u32) -> usize
+    requires { ⌜ Searched (now list) x y from ⌝ }
+    ensures { λ r. ⌜ Searched (now (list .entry)) x y r ⌝ }
+{
+    let mut at = from;
+    while 8 <= list.len() - at {
+        if !eight_free(list, at, x, y) {
+            return at;
+        }
+        at += 8;
+    }
+    at
+}
+
 // The index of the first appearance of x, which is not before `from`, or the list's length where it does not appear.
 fn first_index(list: &[u16], from: usize, x: u32) -> usize
     requires { ⌜ from ≤ firstIndex (now list) x ⌝ }
     ensures { λ r. ⌜ r ≡ firstIndex (now (list .entry)) x ⌝ }
 {
-    let mut i = from;
+    let mut i = skip(list, from, x, x);
     while i < list.len() {
         if basics::wide(list[i]) == x {
             return i;
@@ -25,11 +60,11 @@ fn first_index(list: &[u16], from: usize, x: u32) -> usize
 }
 
 // How long the part of the list is that ends with the first appearance of `chosen`, where `other` appears after it and
-// not before it; else 0. No number of the list is looked at twice.
+// not before it; else 0.
 fn beginning_length(list: &[u16], chosen: u32, other: u32) -> usize
     ensures { λ r. ⌜ r ≡ beginningLength (now (list .entry)) chosen other ⌝ }
 {
-    let mut i = 0;
+    let mut i = skip(list, 0, chosen, other);
     while i < list.len() {
         let x = basics::wide(list[i]);
         if x == other {

@@ -5,7 +5,8 @@ use native.Mathlib.Omega.{arith}
 use Prim.Native.Nat.{_-_}
 use lib.ListN.{length}
 use borrow.Author.Needs.{needs}
-use Rattle.beginning.proofs.Lengths.{Searched, searched-all, searched-other, searched-past, searched-more}
+use Rattle.beginning.specs.Searched.{Searched}
+use Rattle.beginning.proofs.Lengths.{searched-all, searched-other, searched-past, searched-more}
 use Rattle.beginning.proofs.Lengths.{searched-found, searched-without}
 use Rattle.beginning.proofs.beginning_length.Statement.{statement}
 use Rattle.beginning.proofs.beginning_length.Tie as tie
@@ -16,8 +17,11 @@ Inv-loop list chosen other i₀ i = Searched list chosen other i
 abbrev μ-loop : tie.MeasureT-loop
 μ-loop list chosen other i₀ i = length list - i
 
+skip-requires : tie.Need-skip-requires Inv-loop μ-loop
+skip-requires c κs = record { x-later = omega arith; y-later = omega arith }
+
 loop-holds : tie.Need-loop-holds Inv-loop μ-loop
-loop-holds c = record { chosen-later = omega arith; other-later = omega arith }
+loop-holds c = c .skip .ensures
 
 mul-wide : tie.Need-mul-wide Inv-loop μ-loop
 mul-wide c = search needs
@@ -85,6 +89,7 @@ beginning-length-spec =
     (tie.spec
     Inv-loop
     μ-loop
+    skip-requires
     loop-holds
     mul-wide
     shared-slice-read-wide

@@ -16,8 +16,11 @@ Inv-loop list from x i₀ i = i ≤ firstIndex list x
 abbrev μ-loop : tie.MeasureT-loop
 μ-loop list from x i₀ i = length list - i
 
+skip-requires : tie.Need-skip-requires Inv-loop μ-loop
+skip-requires c κs = record { x-later = c .before .pre; y-later = c .before .pre }
+
 loop-holds : tie.Need-loop-holds Inv-loop μ-loop
-loop-holds c = c .before .pre
+loop-holds c = c .skip .ensures .x-later
 
 mul-wide : tie.Need-mul-wide Inv-loop μ-loop
 mul-wide c = search needs
@@ -55,6 +58,7 @@ first-index-spec =
     (tie.spec
     Inv-loop
     μ-loop
+    skip-requires
     loop-holds
     mul-wide
     shared-slice-read-wide
