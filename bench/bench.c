@@ -1,6 +1,6 @@
 /*
- * Times the six calls of the library on a file, and the same calls written by hand in C (native.c), on the same random
- * traces. Before that, it compares all answers and all lent memory of the two.
+ * Times the calls of the library, and the same calls written by hand in C (native.c), on the same random traces. Before
+ * that, it compares all answers and all lent memory of the two.
  *
  *     bench                          compares, then times; exit code 1 if there is a difference
  *     bench --compare                only compares
@@ -34,6 +34,7 @@ enum {
     SMALL = 48,            /* operations that these have at most */
     MORE = 8,              /* bytes that they may be too long by */
     GUARD = 16,            /* elements behind lent memory that must stay as they were */
+    LIST = MERSOHKI_MAX_OPERATIONS + GUARD, /* numbers that a list of the beginning has at most */
     VISITS = 3,
     FEWEST_ROUNDS = 3,     /* of a visit */
     MOST_PASSES = 1000     /* of all visits */
@@ -71,10 +72,17 @@ static int chance(struct random *r, uint32_t percent)
 
 /* Traces */
 
+struct list {
+    const uint16_t *numbers;
+    size_t length;
+};
+
 struct input {
     size_t length;
     uint32_t a, b;             /* the pair whose order is asked */
     uint32_t left, right;      /* an unordered pair, for the two runs */
+    uint32_t chosen, other;    /* what the beginning is asked of, */
+    struct list first, second; /* and in which lists: those two runs */
     uint32_t races;
     uint8_t *file;
 };
@@ -177,8 +185,25 @@ static int choose_pairs(struct random *r, struct input *in, uint32_t n)
     return 0;
 }
 
-static struct input inputs[MOST_TRACES];
+static struct input inputs[MOST_TRACES], racing[MOST_TRACES]; /* racing: those that have a race */
+static uint32_t input_count, racing_count;
 static uint8_t files[10 * (RECORDS + MOST_TRACES)];
+static uint16_t runs[2 * RECORDS];
+
+/* Writes the two runs of the unordered pair, as the lists of the beginning; answers 0 if there are none. If `left` is
+ * chosen, the first list has its beginning; otherwise only the second has it, and the first is looked at in vain. */
+static int write_runs(struct input *in, uint16_t *first, uint16_t *second, size_t space, int choose_left)
+{
+    struct mersohki_runs_result r =
+        native_two_runs(in->file, in->length, in->left, in->right, first, space, second, space);
+    if (r.number != 0)
+        return 0;
+    in->first = (struct list){first, r.operations};
+    in->second = (struct list){second, r.operations};
+    in->chosen = choose_left ? in->left : in->right;
+    in->other = choose_left ? in->right : in->left;
+    return 1;
+}
 
 static uint32_t count_races(const struct input *in);
 
@@ -186,12 +211,17 @@ static uint32_t count_races(const struct input *in);
 static void make_inputs(enum family family, uint32_t n, uint32_t p, uint32_t count)
 {
     struct random r = {1000003 * (uint64_t)n + 101 * p + family};
+    input_count = count;
+    racing_count = 0;
     for (uint32_t i = 0; i < count; i++) {
         inputs[i].file = files + (size_t)i * 10 * (n + 1);
         do
             make_trace(&r, &inputs[i], family, n, p);
         while (!choose_pairs(&r, &inputs[i], n));
+        write_runs(&inputs[i], runs + (size_t)n * 2 * i, runs + (size_t)n * (2 * i + 1), n, i % 2 == 0);
         inputs[i].races = count_races(&inputs[i]);
+        if (inputs[i].races != 0)
+            racing[racing_count++] = inputs[i];
     }
 }
 
@@ -204,6 +234,7 @@ struct memory {
     uint8_t output[MERSOHKI_MAX_FILE + GUARD];
 };
 
+/* Of any call; of the beginning, `place` is the list, and `value` the length. */
 struct answer {
     uint32_t number, place, workers, operations;
     int64_t value;
@@ -235,6 +266,14 @@ typedef struct answer call(const struct input *in, struct memory *m);
                                                         m->first, m->first_length, m->second, m->second_length);      \
         return (struct answer){r.number, r.place, 0, r.operations, 0};                                                \
     }                                                                                                                 \
+    static struct answer side##_beginning_call(const struct input *in, struct memory *m)                              \
+    {                                                                                                                 \
+        (void)m;                                                                                                      \
+        struct mersohki_beginning_result r = side##_beginning(in->first.numbers, in->first.length,                    \
+                                                              in->second.numbers, in->second.length,                  \
+                                                              in->chosen, in->other);                                 \
+        return (struct answer){0, r.list, 0, 0, (int64_t)r.length};                                                   \
+    }                                                                                                                 \
     static struct answer side##_races_call(const struct input *in, struct memory *m)                                  \
     {                                                                                                                 \
         struct mersohki_races_result r = side##_races(in->file, in->length, m->table, m->table_length,                \
@@ -247,19 +286,27 @@ typedef struct answer call(const struct input *in, struct memory *m);
                                                       m->first, in->races, m->second, in->races);                     \
         return (struct answer){r.number, r.place, r.workers, r.operations, r.races};                                  \
     }                                                                                                                 \
+    /* Only of traces that have a race */                                                                             \
+    static struct answer side##_short_call(const struct input *in, struct memory *m)                                  \
+    {                                                                                                                 \
+        struct mersohki_races_result r = side##_races(in->file, in->length, m->table, m->table_length,                \
+                                                      m->first, in->races - 1, m->second, in->races - 1);             \
+        return (struct answer){r.number, r.place, r.workers, r.operations, r.races};                                  \
+    }                                                                                                                 \
     static struct answer side##_tidy_call(const struct input *in, struct memory *m)                                   \
     {                                                                                                                 \
         struct mersohki_canonical_result r = side##_canonical(in->file, in->length, m->output, m->output_length);     \
         return (struct answer){r.number, r.place, 0, 0, r.size};                                                      \
     }                                                                                                                 \
-    static call *const side##_calls[CALLS] = {side##_read_call,  side##_table_call, side##_order_call,                \
-                                              side##_runs_call, side##_races_call, side##_fit_call,                   \
-                                              side##_tidy_call};
+    static call *const side##_calls[CALLS] = {side##_read_call, side##_table_call,     side##_order_call,             \
+                                              side##_runs_call, side##_beginning_call, side##_races_call,             \
+                                              side##_fit_call,  side##_short_call,     side##_tidy_call};
 
-/* The races twice: with lists that hold any number of them, and with lists that just hold those of the trace. */
-enum { READ_FILE, TABLE, PAIR_ORDER, TWO_RUNS, RACES, RACES_FIT, TIDY, CALLS };
-static const char *const call_names[CALLS] = {"read",  "order table", "pair order", "two runs",
-                                              "races", "races, fit",  "tidy file"};
+/* The races three times: with lists that hold any number of them, with lists that just hold those of the trace, and
+ * with lists that are one too short, which 16 refuses. */
+enum { READ_FILE, TABLE, PAIR_ORDER, TWO_RUNS, BEGINNING, RACES, RACES_FIT, RACES_SHORT, TIDY, CALLS };
+static const char *const call_names[CALLS] = {"read",  "order table", "pair order",       "two runs", "beginning",
+                                              "races", "races, fit",  "races refused 16", "tidy file"};
 
 DEFINE_CALLS(mersohki)
 DEFINE_CALLS(native)
@@ -298,6 +345,26 @@ static int same_memory(const struct memory *x, const struct memory *y)
            memcmp(x->output, y->output, x->output_length + GUARD) == 0;
 }
 
+/* What a call may only read, as it was before the call */
+struct copy {
+    uint8_t file[MERSOHKI_MAX_FILE + MORE];
+    uint16_t first[LIST], second[LIST];
+};
+
+static void copy_input(struct copy *copy, const struct input *in)
+{
+    memcpy(copy->file, in->file, in->length);
+    memcpy(copy->first, in->first.numbers, in->first.length * sizeof *copy->first);
+    memcpy(copy->second, in->second.numbers, in->second.length * sizeof *copy->second);
+}
+
+static int same_input(const struct copy *copy, const struct input *in)
+{
+    return memcmp(copy->file, in->file, in->length) == 0 &&
+           memcmp(copy->first, in->first.numbers, in->first.length * sizeof *copy->first) == 0 &&
+           memcmp(copy->second, in->second.numbers, in->second.length * sizeof *copy->second) == 0;
+}
+
 static int same_answer(const struct answer *x, const struct answer *y)
 {
     return x->number == y->number && x->place == y->place && x->workers == y->workers &&
@@ -311,8 +378,10 @@ struct tally {
 
 static void report_difference(const struct input *in, int which, const struct answer *x, const struct answer *y)
 {
-    printf("different: %s, %zu bytes, pairs %u %u and %u %u: library %u %u %u %u %lld, native %u %u %u %u %lld\n",
-           call_names[which], in->length, in->a, in->b, in->left, in->right,
+    printf("different: %s, %zu bytes, pairs %u %u and %u %u, lists of %zu and %zu, chosen %u, other %u, races %u: "
+           "library %u %u %u %u %lld, native %u %u %u %u %lld\n",
+           call_names[which], in->length, in->a, in->b, in->left, in->right, in->first.length, in->second.length,
+           in->chosen, in->other, in->races,
            x->number, x->place, x->workers, x->operations, (long long)x->value,
            y->number, y->place, y->workers, y->operations, (long long)y->value);
     for (size_t i = 0; i < in->length && i < 10 + 10 * SMALL; i++)
@@ -322,14 +391,14 @@ static void report_difference(const struct input *in, int which, const struct an
 
 static void compare_call(const struct input *in, int which, struct tally *tally)
 {
-    static uint8_t before[MERSOHKI_MAX_FILE + MORE];
-    memcpy(before, in->file, in->length);
+    static struct copy before;
+    copy_input(&before, in);
     fill(&ours);
     fill(&theirs);
     struct answer x = mersohki_calls[which](in, &ours), y = native_calls[which](in, &theirs);
     tally->calls++;
     tally->refused[y.number]++;
-    if (same_answer(&x, &y) && same_memory(&ours, &theirs) && memcmp(before, in->file, in->length) == 0)
+    if (same_answer(&x, &y) && same_memory(&ours, &theirs) && same_input(&before, in))
         return;
     tally->different++;
     if (tally->different <= 5)
@@ -367,17 +436,18 @@ static void lend_both(struct random *r, size_t table, size_t list, size_t output
     lend(&theirs, table, first, second, output);
 }
 
-/* Compares all calls on one file: with just the memory they need, or with random lengths of memory. */
+/* Compares all calls on one file: with just the memory they need, or with random lengths of memory. The lists that are
+ * one too short are so in both cases. */
 static void compare_file(struct random *r, const struct input *in, int exactly, struct tally *tally)
 {
     lend(&theirs, MERSOHKI_MAX_TABLE, MERSOHKI_MAX_RACES, MERSOHKI_MAX_RACES, MERSOHKI_MAX_FILE);
     struct answer whole = native_races_call(in, &theirs);
     size_t table = (size_t)whole.operations * whole.workers;
     for (int which = 0; which < CALLS; which++) {
-        if (which == RACES_FIT)
+        if (which == RACES_FIT || (which == RACES_SHORT && in->races == 0))
             continue;
-        size_t list = which == RACES ? (size_t)whole.value : whole.operations;
-        if (exactly) {
+        size_t list = which == RACES || which == RACES_SHORT ? (size_t)whole.value : whole.operations;
+        if (exactly || which == RACES_SHORT) {
             lend(&ours, table, list, list, in->length);
             lend(&theirs, table, list, list, in->length);
         } else {
@@ -385,6 +455,15 @@ static void compare_file(struct random *r, const struct input *in, int exactly, 
         }
         compare_call(in, which, tally);
     }
+}
+
+/* Compares the beginning with the chosen number and the other exchanged. */
+static void compare_exchanged(const struct input *in, struct tally *tally)
+{
+    struct input exchanged = *in;
+    exchanged.chosen = in->other;
+    exchanged.other = in->chosen;
+    compare_call(&exchanged, BEGINNING, tally);
 }
 
 static void compare_families(struct tally *tally)
@@ -396,6 +475,7 @@ static void compare_families(struct tally *tally)
                 make_inputs(family, sizes[i], worker_counts[p], RECORDS / sizes[i]);
                 for (uint32_t j = 0; j < RECORDS / sizes[i]; j++) {
                     compare_file(&r, &inputs[j], 1, tally);
+                    compare_exchanged(&inputs[j], tally);
                     lend(&ours, MERSOHKI_MAX_TABLE, MERSOHKI_MAX_RACES, MERSOHKI_MAX_RACES, MERSOHKI_MAX_FILE);
                     lend(&theirs, MERSOHKI_MAX_TABLE, MERSOHKI_MAX_RACES, MERSOHKI_MAX_RACES, MERSOHKI_MAX_FILE);
                     compare_call(&inputs[j], RACES, tally);
@@ -408,6 +488,39 @@ static void any_pair(struct random *r, uint32_t n, uint32_t *a, uint32_t *b)
 {
     *a = chance(r, 95) ? below(r, n + 1) : (uint32_t)next(r);
     *b = chance(r, 95) ? below(r, n + 1) : *a;
+}
+
+/* A number to look for in a list of numbers below `count`, sometimes with a bit that none of them has */
+static uint32_t any_number(struct random *r, uint32_t count)
+{
+    return chance(r, 5) ? 65536 + below(r, count) : below(r, count);
+}
+
+/* Lists for the beginning: random numbers, many of them equal, and sometimes one list twice; or the two runs, if there
+ * are any. Behind a list lie other numbers of its sort, so that a look at them can be noticed. */
+static void any_lists(struct random *r, struct input *in, uint32_t n)
+{
+    static uint16_t first[LIST], second[LIST];
+    uint32_t count = 1 + below(r, 3 * n + 1);
+    for (uint32_t i = 0; i < n + GUARD; i++) {
+        first[i] = (uint16_t)below(r, count);
+        second[i] = (uint16_t)below(r, count);
+    }
+    in->first = (struct list){first, some_length(r, n)};
+    in->second = chance(r, 10) ? in->first : (struct list){second, some_length(r, n)};
+    in->chosen = any_number(r, count);
+    in->other = any_number(r, count);
+    if (chance(r, 50))
+        write_runs(in, first, second, MERSOHKI_MAX_OPERATIONS, chance(r, 50));
+}
+
+/* All that is asked of a file of n operations */
+static void any_questions(struct random *r, struct input *in, uint32_t n)
+{
+    any_pair(r, n, &in->a, &in->b);
+    any_pair(r, n, &in->left, &in->right);
+    any_lists(r, in, n);
+    in->races = count_races(in);
 }
 
 /* Random operations, which may be stuck */
@@ -468,8 +581,7 @@ static void compare_damaged(struct tally *tally)
         default:
             make_bytes(&r, &in);
         }
-        any_pair(&r, n, &in.a, &in.b);
-        any_pair(&r, n, &in.left, &in.right);
+        any_questions(&r, &in, n);
         compare_file(&r, &in, 0, tally);
     }
 }
@@ -484,8 +596,7 @@ static void compare_large(struct tally *tally)
         make_trace(&r, &in, below(&r, FAMILIES), n, 1 + below(&r, 16));
         if (i % 3 == 0)
             damage(&r, &in);
-        any_pair(&r, n, &in.a, &in.b);
-        any_pair(&r, n, &in.left, &in.right);
+        any_questions(&r, &in, n);
         compare_file(&r, &in, 0, tally);
     }
 }
@@ -526,16 +637,29 @@ static double seconds(void)
     return (double)t.tv_sec + 1e-9 * (double)t.tv_nsec;
 }
 
-/* One pass over the traces; answers its time. A call that refuses ends the program: it would be no measurement. */
-static double pass(call *f, uint32_t count)
+/* What a call is timed on: traces, and the number that it has to answer with, which is 0 if it must not refuse. */
+struct batch {
+    const struct input *inputs;
+    uint32_t count, number;
+};
+
+static struct batch batch_of(int which)
 {
-    uint32_t refused = 0;
+    if (which == RACES_SHORT)
+        return (struct batch){racing, racing_count, MERSOHKI_RACE_SPACE};
+    return (struct batch){inputs, input_count, 0};
+}
+
+/* One pass over the traces; answers its time. Another number than due ends the program: it would be no measurement. */
+static double pass(call *f, struct batch batch)
+{
+    uint32_t wrong = 0;
     double from = seconds();
-    for (uint32_t i = 0; i < count; i++)
-        refused |= f(&inputs[i], &ours).number;
+    for (uint32_t i = 0; i < batch.count; i++)
+        wrong |= f(&batch.inputs[i], &ours).number ^ batch.number;
     double time = seconds() - from;
-    if (refused != 0) {
-        printf("a call refused while it was timed\n");
+    if (wrong != 0 || batch.count == 0) {
+        printf("a call did not answer as it should while it was timed\n");
         exit(1);
     }
     return time;
@@ -554,25 +678,26 @@ static void find_figures(struct side *side, uint32_t count)
     side->median = 1e6 * side->times[side->passes / 2] / count;
 }
 
-static double add_pass(struct side *side, call *f, uint32_t count)
+static double add_pass(struct side *side, call *f, struct batch batch)
 {
-    return side->times[side->passes++] = pass(f, count);
+    return side->times[side->passes++] = pass(f, batch);
 }
 
 /* A visit: rounds of one pass of each side, the library first in every other one; a slow library only in the first. */
-static void visit(struct cell *cell, int which, uint32_t count)
+static void visit(struct cell *cell, int which)
 {
+    struct batch batch = batch_of(which);
     double spent = 0;
     for (uint32_t i = 0; i < FEWEST_ROUNDS || (spent < VISIT_SECONDS && i < MOST_PASSES / VISITS); i++) {
         int both = spent < SLOW_SECONDS;
         if (both && i % 2 == 0)
-            spent += add_pass(&cell->library, mersohki_calls[which], count);
-        spent += add_pass(&cell->native, native_calls[which], count);
+            spent += add_pass(&cell->library, mersohki_calls[which], batch);
+        spent += add_pass(&cell->native, native_calls[which], batch);
         if (both && i % 2 == 1)
-            spent += add_pass(&cell->library, mersohki_calls[which], count);
+            spent += add_pass(&cell->library, mersohki_calls[which], batch);
     }
-    find_figures(&cell->library, count);
-    find_figures(&cell->native, count);
+    find_figures(&cell->library, batch.count);
+    find_figures(&cell->native, batch.count);
 }
 
 static double mean_races(uint32_t count)
@@ -591,7 +716,7 @@ static void visit_cells(void)
                 uint32_t count = RECORDS / sizes[i];
                 make_inputs(family, sizes[i], worker_counts[p], count);
                 for (int which = 0; which < CALLS; which++)
-                    visit(&cells[p][which][family][i], which, count);
+                    visit(&cells[p][which][family][i], which);
                 race_counts[p][family] = mean_races(count);
             }
 }
@@ -637,9 +762,12 @@ static void print_setting(void)
            "            and that in each of %d visits; a library that takes over %.1f s only in the first round of a\n"
            "            visit; so %u to %u passes of the library\n",
            VISIT_SECONDS, FEWEST_ROUNDS, VISITS, SLOW_SECONDS, fewest, most);
-    printf("traces      %d / n different ones in turn, all accepted\n", RECORDS);
+    printf("traces      %d / n different ones in turn, all accepted; refused 16: those of them that have a race\n",
+           RECORDS);
     printf("buffers     the same for both sides, not cleared between calls; lists for %d races, or, where\n"
-           "            they fit, for just as many as the trace has\n", MERSOHKI_MAX_RACES);
+           "            they fit, for just as many as the trace has, or, refused 16, for one fewer\n",
+           MERSOHKI_MAX_RACES);
+    printf("beginning   of the two runs, written before; found in the first run and in the second in turn\n");
     for (uint32_t p = 0; p < WORKER_COUNTS; p++) {
         printf("%s p = %-2u", p == 0 ? "races       mean at n = 1024:" : "                             ",
                worker_counts[p]);
@@ -661,14 +789,14 @@ static void print_ratios(uint32_t p)
 {
     printf("\np = %u: time of the library / time of native C; at n = 1024 also microseconds, and ratio of medians\n",
            worker_counts[p]);
-    printf("%-12s %-8s", "call", "family");
+    printf("%-16s %-8s", "call", "family");
     for (uint32_t i = 0; i < SIZES; i++)
         print_size(sizes[i]);
     printf("  %10s %10s %8s\n", "library us", "native us", "medians");
     for (int which = 0; which < CALLS; which++)
         for (int family = 0; family < FAMILIES; family++) {
             const struct cell *row = cells[p][which][family], *last = &row[SIZES - 1];
-            printf("%-12s %-8s", call_names[which], family_names[family]);
+            printf("%-16s %-8s", call_names[which], family_names[family]);
             for (uint32_t i = 0; i < SIZES; i++)
                 printf("%9.2f", row[i].library.least / row[i].native.least);
             printf("  %10.2f %10.2f %8.2f\n", last->library.least, last->native.least,
@@ -678,7 +806,7 @@ static void print_ratios(uint32_t p)
 
 static void print_growth(uint32_t p)
 {
-    printf("\np = %u: growth, time at n / time at n / 2\n%-21s%36s    %36s\n%-12s %-8s", worker_counts[p], "",
+    printf("\np = %u: growth, time at n / time at n / 2\n%-25s%36s    %36s\n%-16s %-8s", worker_counts[p], "",
            "library", "native C", "call", "family");
     for (uint32_t i = 1; i < SIZES; i++)
         print_size(sizes[i]);
@@ -689,7 +817,7 @@ static void print_growth(uint32_t p)
     for (int which = 0; which < CALLS; which++)
         for (int family = 0; family < FAMILIES; family++) {
             const struct cell *row = cells[p][which][family];
-            printf("%-12s %-8s", call_names[which], family_names[family]);
+            printf("%-16s %-8s", call_names[which], family_names[family]);
             for (uint32_t i = 1; i < SIZES; i++)
                 printf("%9.2f", row[i].library.least / row[i - 1].library.least);
             printf("    ");
@@ -709,15 +837,15 @@ static void print_all(void)
 }
 
 /* Instructions are counted in here: bench/instructions names this function. */
-void counted_pass(uint32_t count);
+void counted_pass(void);
 
-void counted_pass(uint32_t count)
+void counted_pass(void)
 {
     for (int which = 0; which < CALLS; which++) {
-        if (which == RACES_FIT)
+        if (which == RACES_FIT || which == RACES_SHORT)
             continue;
-        pass(mersohki_calls[which], count);
-        pass(native_calls[which], count);
+        pass(mersohki_calls[which], batch_of(which));
+        pass(native_calls[which], batch_of(which));
     }
 }
 
@@ -727,11 +855,12 @@ static int run_pass(const char *name, const char *workers, const char *traces)
     int family = 0;
     while (family < FAMILIES && strcmp(name, family_names[family]) != 0)
         family++;
-    if (family == FAMILIES || p < 2 || p > MERSOHKI_MAX_WORKERS || count < 1 || count > MOST_TRACES)
+    if (family == FAMILIES || p < 2 || p > MERSOHKI_MAX_WORKERS || count < 1 ||
+        count > RECORDS / MERSOHKI_MAX_OPERATIONS)
         return 2;
     lend(&ours, MERSOHKI_MAX_TABLE, MERSOHKI_MAX_RACES, MERSOHKI_MAX_RACES, MERSOHKI_MAX_FILE);
     make_inputs(family, MERSOHKI_MAX_OPERATIONS, (uint32_t)p, (uint32_t)count);
-    counted_pass((uint32_t)count);
+    counted_pass();
     return 0;
 }
 

@@ -1,6 +1,6 @@
 /*
- * The six calls on a file, written by hand in C for speed: what the proved library is measured against. Parameters,
- * answers, refusals, and which lent memory is written, are those of mersohki.h. Nothing here is proved.
+ * The calls of mersohki.h, written by hand in C for speed: what the proved library is measured against. Parameters,
+ * answers, refusals, and which lent memory is written, are those of the header. Nothing here is proved.
  *
  * No heap, no global state; native_races needs 200 KiB of stack, the others below 64 KiB.
  */
@@ -27,5 +27,9 @@ struct mersohki_races_result native_races(const uint8_t *file, size_t file_lengt
 
 struct mersohki_canonical_result native_canonical(const uint8_t *file, size_t file_length,
                                                   uint8_t *output, size_t output_length);
+
+struct mersohki_beginning_result native_beginning(const uint16_t *first, size_t first_length,
+                                                  const uint16_t *second, size_t second_length,
+                                                  uint32_t chosen, uint32_t other);
 
 #endif
