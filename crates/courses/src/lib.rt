@@ -6,11 +6,10 @@ ghost use Prim.Native.Nat.{ℕ, _+_, _-_, _<_, _≤_};
 ghost use lib.ListN.{length, getD};
 ghost use Rattle.trace.specs.Premises.{Fits};
 ghost use Rattle.trace.specs.Trace.{Trace, size};
-ghost use Rattle.index.specs.Indexed.{Indexed};
 ghost use Rattle.index.specs.Steps.{ahead, Listed};
 ghost use Rattle.index.specs.Filling.{Copied};
 ghost use Rattle.states.specs.States.{Exhausted, nextOf, lowestLeft};
-ghost use Rattle.courses.specs.Courses.{Opens, Begun, Entry, Cut, LeftOut, Ended};
+ghost use Rattle.courses.specs.Courses.{Opens, Begun, Entry, Cut, LeftOut, Ended, Places};
 use walk::Walk;
 
 // Each worker at the start of its list, and how many operations it has.
@@ -81,4 +80,159 @@ fn cut(
     let end = basics::index(stops[q]);
     stops[q] = entry_from(list, from, end, basics::wide(rank)) as u16;
     lasts[q] = rank;
+}
+
+// The state at the end of the walk of p workers, with nothing left out.
+pub fn walk_whole(p: usize, starts: &[u16; 17], list: &[u32; 1024], ends: &[u16; 16]) -> Walk
+    requires { ⌜ (p ≤ 16) × Opens (now starts) (now ends) ⌝ }
+    ensures { λ r. ⌜ ((t : Trace) → Fits t → t .workers ≡ p
+        → Listed t (now (starts .entry)) (now (list .entry)) (now (ends .entry))
+        → (s : List ℕ) × Exhausted t (size t) s (r .done) (r .events)) ⌝ }
+{
+    let mut nexts = [0u16; 16];
+    let mut lasts = [0u16; 16];
+    let mut done = [0u16; 16];
+    let mut events = [0u64; 4];
+    let mut waiting = [0u16; 256];
+    begin(starts, &mut nexts, &mut lasts);
+    let all = masks::below(p as u32);
+    walk::walk_on(
+        list,
+        ends,
+        &lasts,
+        all,
+        &mut nexts,
+        &mut done,
+        &mut events,
+        &mut waiting,
+    );
+    Walk {
+        done: done,
+        events: events,
+    }
+}
+
+// The state at the end of the walk of p workers without worker q's operation of this rank.
+pub fn walk_without(
+    p: usize,
+    q: usize,
+    rank: u16,
+    starts: &[u16; 17],
+    list: &[u32; 1024],
+    ends: &[u16; 16],
+) -> Walk
+    requires { ⌜ (p ≤ 16) × (q < 16) × Opens (now starts) (now ends) ⌝ }
+    ensures { λ r. ⌜ ((t : Trace) (a : ℕ)
+        → LeftOut t p (now (starts .entry)) (now (list .entry)) (now (ends .entry)) q rank a
+        → (s : List ℕ) × Exhausted t a s (r .done) (r .events)) ⌝ }
+{
+    let mut nexts = [0u16; 16];
+    let mut lasts = [0u16; 16];
+    let mut stops = [0u16; 16];
+    let mut done = [0u16; 16];
+    let mut events = [0u64; 4];
+    let mut waiting = [0u16; 256];
+    begin(starts, &mut nexts, &mut lasts);
+    copy_ends(ends, &mut stops);
+    cut(list, starts, q, rank, &mut stops, &mut lasts);
+    let all = masks::below(p as u32);
+    walk::walk_on(
+        list,
+        &stops,
+        &lasts,
+        all,
+        &mut nexts,
+        &mut done,
+        &mut events,
+        &mut waiting,
+    );
+    Walk {
+        done: done,
+        events: events,
+    }
+}
+
+// The done counts at the end of the walk without an operation, and, with that let in, at the end of the whole walk.
+pub struct Twice {
+    pub held: [u16; 16],
+    pub whole: [u16; 16],
+}
+
+// One walk of p workers, first without worker q's operation of this rank, then with it.
+pub fn walk_twice(
+    p: usize,
+    q: usize,
+    rank: u16,
+    starts: &[u16; 17],
+    list: &[u32; 1024],
+    ends: &[u16; 16],
+) -> Twice
+    requires { ⌜ (p ≤ 16) × (q < 16) × Opens (now starts) (now ends) ⌝ }
+    ensures { λ r. ⌜ ((t : Trace) (a : ℕ)
+        → LeftOut t p (now (starts .entry)) (now (list .entry)) (now (ends .entry)) q rank a
+        → Ended t a (r .held) × Ended t (size t) (r .whole)) ⌝ }
+{
+    let mut nexts = [0u16; 16];
+    let mut lasts = [0u16; 16];
+    let mut stops = [0u16; 16];
+    let mut done = [0u16; 16];
+    let mut events = [0u64; 4];
+    let mut waiting = [0u16; 256];
+    begin(starts, &mut nexts, &mut lasts);
+    copy_ends(ends, &mut stops);
+    cut(list, starts, q, rank, &mut stops, &mut lasts);
+    let all = masks::below(p as u32);
+    walk::walk_on(list, &stops, &lasts, all, &mut nexts, &mut done, &mut events, &mut waiting);
+    let held = done;
+    stops[q] = ends[q];
+    lasts[q] = starts[q + 1] - starts[q];
+    let own = masks::with(0, q as u32);
+    walk::walk_on(list, &stops, &lasts, own, &mut nexts, &mut done, &mut events, &mut waiting);
+    Twice {
+        held: held,
+        whole: done,
+    }
+}
+
+// Worker q's next operation, of n operations; n where it has none left.
+pub fn next_operation(
+    n: usize,
+    order: &[u16; 1024],
+    starts: &[u16; 17],
+    done: &[u16; 16],
+    q: usize,
+) -> usize
+    requires { ⌜ (q < 16) × (getD (now starts) (q + 1) 0 ≤ 1024) ⌝ }
+    ensures { λ r. ⌜ ((t : Trace) → Places t n (now (order .entry)) (now (starts .entry)) → q < t .workers
+        → r ≡ nextOf t (now (done .entry)) q) ⌝ }
+{
+    let at = basics::index(starts[q]) + basics::index(done[q]);
+    if at < basics::index(starts[q + 1]) {
+        return basics::index(order[at]);
+    }
+    n
+}
+
+// The lowest of the p workers' next operations; n where none has one left.
+pub fn lowest_left(
+    p: usize,
+    n: usize,
+    order: &[u16; 1024],
+    starts: &[u16; 17],
+    done: &[u16; 16],
+) -> usize
+    requires { ⌜ (p ≤ 16) × ((q : ℕ) → q < 16 → getD (now starts) (q + 1) 0 ≤ 1024) ⌝ }
+    ensures { λ r. ⌜ ((t : Trace) → Places t n (now (order .entry)) (now (starts .entry)) → p ≡ t .workers
+        → r ≡ lowestLeft t (now (done .entry)) p) ⌝ }
+{
+    let mut least = n;
+    let mut q: usize = 0;
+    while q < p {
+        let k = next_operation(n, order, starts, done, q);
+        q += 1;
+        if k < least {
+            least = k;
+        }
+    }
+    least
 }

@@ -1,0 +1,91 @@
+use borrow.Author.Needs.{needs}
+use Rattle.courses.proofs.next_operation.Statement.{statement}
+use Rattle.courses.proofs.next_operation.Tie as tie
+use Rattle.courses.proofs.next_operation.Reads as reads
+use Rattle.courses.proofs.next_operation.Lts as lts
+use Rattle.basics.proofs.index.Reads as index-reads
+
+-- src/lib.rt:209:28
+mul-index : tie.Need-mul-index
+mul-index c = search needs
+
+-- src/lib.rt:209:28
+element-copy-out-index : tie.Need-element-copy-out-index
+element-copy-out-index c = search needs
+
+-- src/lib.rt:209:14
+index-requires : tie.Need-index-requires
+index-requires c κs = search needs
+
+-- src/lib.rt:209:55
+mul-index-2 : tie.Need-mul-index-2
+mul-index-2 c = search needs
+
+-- src/lib.rt:209:55
+element-copy-out-index-2 : tie.Need-element-copy-out-index-2
+element-copy-out-index-2 c = search needs
+
+-- src/lib.rt:209:41
+index-requires-2 : tie.Need-index-requires-2
+index-requires-2 c κs = search needs
+
+-- src/lib.rt:209:14
+add-at : tie.Need-add-at
+add-at c = search needs
+
+-- src/lib.rt:210:34
+add-index : tie.Need-add-index
+add-index c = search needs
+
+-- src/lib.rt:210:27
+mul-index-3 : tie.Need-mul-index-3
+mul-index-3 c = search needs
+
+-- src/lib.rt:210:27
+element-copy-out-index-3 : tie.Need-element-copy-out-index-3
+element-copy-out-index-3 c = search needs
+
+-- src/lib.rt:210:13
+index-requires-3 : tie.Need-index-requires-3
+index-requires-3 c κs = search needs
+
+-- src/lib.rt:211:30
+mul-index-4 : tie.Need-mul-index-4
+mul-index-4 c = search needs
+
+-- src/lib.rt:211:30
+element-copy-out-index-4 : tie.Need-element-copy-out-index-4
+element-copy-out-index-4 c = search needs
+
+-- src/lib.rt:211:9
+index-requires-4 : tie.Need-index-requires-4
+index-requires-4 c κs = search needs
+
+-- src/lib.rt:211:9
+returns : tie.Need-returns
+returns c = ?
+
+-- src/lib.rt:198:1
+returns-2 : tie.Need-returns-2
+returns-2 c = ?
+
+pub next-operation-spec : {M : Type 1} → statement M
+next-operation-spec =
+    tie.close
+    (tie.spec
+    mul-index
+    element-copy-out-index
+    index-requires
+    mul-index-2
+    element-copy-out-index-2
+    index-requires-2
+    add-at
+    add-index
+    mul-index-3
+    element-copy-out-index-3
+    index-requires-3
+    mul-index-4
+    element-copy-out-index-4
+    index-requires-4
+    returns
+    returns-2)
