@@ -4,3 +4,4 @@
 pub mod Filling
 pub mod Cutting
 pub mod Starting
+pub mod Lookups

@@ -40,6 +40,46 @@ start-sized o x h k m =
       each = λ q l. let e = o q l in (omega (arith, x .each q l .0, e .0), e .1);
     }
 
+module _ {starts ends nexts lasts stops : List ℕ} (o : Opens starts ends) (b : Begun starts nexts lasts 16)
+    (same : Copied ends stops 16) {list : List ℕ} {q rank : ℕ} (low : q < 16) {stops′ lasts′ : List ℕ}
+    (y : Cut list starts stops lasts q rank stops′ lasts′) where
+  -- the lists that are left lie inside too
+  pub cut-opens : (r : ℕ) → r < 16 → (getD starts r 0 ≤ getD stops′ r 0) × (getD stops′ r 0 ≤ 1024)
+  cut-opens r l = rw (y .stops) (go (equal? r q))
+    where
+      go : (r ≡ q) ⊎ (r ≢ q)
+          → (getD starts r 0 ≤ getD (set stops q (y .at)) r 0) × (getD (set stops q (y .at)) r 0 ≤ 1024)
+      go (inl e) =
+          rw (e, getD-set-same stops q (y .at) 0 (omega (arith, low, same .room)))
+          (y .entry .from-on, omega (arith, y .entry .up-to, same .each q low, o .each q low .1))
+      go (inr n) =
+          let e = o .each r l in
+          rw (getD-set-other stops q r (y .at) 0 n, same .each r l) (e .0, e .1)
+
+  -- and those that are whole again
+  pub let-in-sized : {nexts′ counts events waiting : List ℕ} → Sized stops′ nexts′ counts events waiting
+      → Sized (set stops′ q (getD ends q 0)) nexts′ counts events waiting
+  let-in-sized {nexts′} s =
+      record {
+        places = s .places;
+        counters = s .counters;
+        words = s .words;
+        room = s .room;
+        each = λ r l. each r l (equal? r q);
+      }
+    where
+      long : length stops′ ≡ 16
+      long = rw (y .stops) (length-set stops q (y .at) ∙ same .room)
+
+      each : (r : ℕ) → r < 16 → (r ≡ q) ⊎ (r ≢ q)
+          → (getD nexts′ r 0 ≤ getD (set stops′ q (getD ends q 0)) r 0)
+          × (getD (set stops′ q (getD ends q 0)) r 0 ≤ 1024)
+      each r l (inl e) =
+          let at : getD stops′ q 0 ≡ y .at = rw (y .stops) (getD-set-same stops q (y .at) 0 (omega (arith, low, same .room))) in
+          rw (e, getD-set-same stops′ q (getD ends q 0) 0 (omega (arith, low, long)))
+          (omega (arith, s .each q low .0, at, y .entry .up-to, same .each q low), o .each q low .1)
+      each r l (inr n) = rw (getD-set-other stops′ q r (getD ends q 0) 0 n) (s .each r l)
+
 -- ---- each worker's list
 
 pub courses-whole : {t : Trace} {starts list ends nexts lasts : List ℕ} → Listed t starts list ends

@@ -7,7 +7,6 @@ use lib.ListN.{length, getD, set}
 use Rattle.runs.specs.Workers.{earlier}
 use Rattle.trace.specs.Premises.{Fits}
 use Rattle.trace.specs.Trace.{Trace, size, workerOf}
-use Rattle.index.specs.Indexed.{Indexed}
 use Rattle.index.specs.Steps.{ahead, Follows, Listed}
 use Rattle.states.specs.States.{Exhausted}
 
@@ -57,9 +56,3 @@ pub record Ended (t : Trace) (a : ℕ) (counts : List ℕ) : Type 0 where
   pub run : List ℕ
   pub events : List ℕ
   pub exhausted : Exhausted t a run counts events
-
--- the trace fits, has n operations, and this is its index
-pub record Places (t : Trace) (n : ℕ) (order starts : List ℕ) : Type 0 where
-  pub fits : Fits t
-  pub count : size t ≡ n
-  pub indexed : Indexed t order starts

@@ -6,10 +6,11 @@ ghost use Prim.Native.Nat.{ℕ, _+_, _-_, _<_, _≤_};
 ghost use lib.ListN.{length, getD};
 ghost use Rattle.trace.specs.Premises.{Fits};
 ghost use Rattle.trace.specs.Trace.{Trace, size};
+ghost use Rattle.index.specs.Indexed.{Places};
 ghost use Rattle.index.specs.Steps.{ahead, Listed};
 ghost use Rattle.index.specs.Filling.{Copied};
 ghost use Rattle.states.specs.States.{Exhausted, nextOf, lowestLeft};
-ghost use Rattle.courses.specs.Courses.{Opens, Begun, Entry, Cut, LeftOut, Ended, Places};
+ghost use Rattle.courses.specs.Courses.{Opens, Begun, Entry, Cut, LeftOut, Ended};
 use walk::Walk;
 
 // Each worker at the start of its list, and how many operations it has.

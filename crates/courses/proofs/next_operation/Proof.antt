@@ -1,3 +1,6 @@
+use Rattle.courses.proofs.Lookups.{next-found, next-past}
+use native.Mathlib.Omega.{arith}
+use mathlib.Core.Path.{_≡_, _∙_}
 use borrow.Author.Needs.{needs}
 use Rattle.courses.proofs.next_operation.Statement.{statement}
 use Rattle.courses.proofs.next_operation.Tie as tie
@@ -63,11 +66,22 @@ index-requires-4 c κs = search needs
 
 -- src/lib.rt:211:9
 returns : tie.Need-returns
-returns c = ?
+returns c =
+    λ t x known.
+    let from = c .before .before .before .before .before .before .before .index .ensures .0 in
+    let count = c .before .before .before .before .before .index2 .ensures .0 in
+    let end = c .before .before .before .index3 .ensures .0 in
+    let here = rw (from, count, end) at (c .before .before .if1 .taken) in
+    c .index4 .ensures .0 ∙ rw (from, count) (next-found x (c .before .before .before .before .before .before .before .before .before .args .done .now) known here)
 
 -- src/lib.rt:198:1
 returns-2 : tie.Need-returns-2
-returns-2 c = ?
+returns-2 c =
+    λ t x known.
+    let from = c .before .before .before .before .before .index .ensures .0 in
+    let count = c .before .before .before .index2 .ensures .0 in
+    let end = c .before .index3 .ensures .0 in
+    next-past x (c .before .before .before .before .before .before .before .args .done .now) known (rw (from, count, end) at (c .if1 .left))
 
 pub next-operation-spec : {M : Type 1} → statement M
 next-operation-spec =
