@@ -1,21 +1,31 @@
--- `accept_if_complete` meets its contract.
--- Assumes nothing.
+use Rattle.accept.proofs.Accepting.{handed-opens}
+use Rattle.trace.proofs.Fitting.{trace-fits}
+use Rattle.trace.specs.Reading.{traceOf}
 use borrow.Author.Needs.{needs}
-use Rattle.accept.proofs.Accepting.{answer-refused, answer-accepted}
 use Rattle.accept.proofs.accept_if_complete.Statement.{statement}
 use Rattle.accept.proofs.accept_if_complete.Tie as tie
+use Rattle.accept.proofs.accept_if_complete.Reads as reads
+use Rattle.accept.proofs.accept_if_complete.Lts as lts
+use Rattle.accept.proofs.accept_if_done.Reads as accept-if-done-reads
+use Rattle.courses.proofs.walk_whole.Reads as walk-whole-reads
 
-first-outside-requires : tie.Need-first-outside-requires
-first-outside-requires c κs = search needs
+-- src/lib.rt:93:9
+walk-whole-requires : tie.Need-walk-whole-requires
+walk-whole-requires c κs =
+    let (h, x) = c .before .pre in
+    (h .most, handed-opens h x)
 
-cast-t8 : tie.Need-cast-t8
-cast-t8 c = search needs
+-- src/lib.rt:95:5
+accept-if-done-requires : tie.Need-accept-if-done-requires
+accept-if-done-requires c κs =
+    let (h, x) = c .before .before .before .before .pre in
+    let t = traceOf (c .before .before .before .before .args .file .now) in
+    let (run, end) = c .before .before .walk-whole .ensures t (trace-fits h) (h .workers) (x .listed) in
+    (h, x .indexed, record { run = run; events = _; exhausted = end })
 
+-- src/lib.rt:80:1
 returns : tie.Need-returns
-returns c = answer-refused (c .before .before .before .pre) (c .before .first-outside .ensures) (c .if1 .taken)
-
-returns-2 : tie.Need-returns-2
-returns-2 c = answer-accepted (c .before .before .before .pre) (c .before .first-outside .ensures) (c .if1 .left)
+returns c = search needs
 
 pub accept-if-complete-spec : {M : Type 1} → statement M
-accept-if-complete-spec = tie.close (tie.spec first-outside-requires cast-t8 returns returns-2)
+accept-if-complete-spec = tie.close (tie.spec walk-whole-requires accept-if-done-requires returns)
