@@ -63,7 +63,7 @@ pub fn accept_if_done(
     ensures { λ r. ⌜ r ≡ acceptAnswer (now (file .entry)) ⌝ }
 {
     let n = operations as usize;
-    let k = courses::lowest_left(workers as usize, n, order, starts, done);
+    let k = places::lowest_left(workers as usize, n, order, starts, done);
     if k < n {
         return AcceptAnswer::Refused {
             number: 10,

@@ -6,10 +6,9 @@ ghost use Prim.Native.Nat.{ℕ, _+_, _-_, _<_, _≤_};
 ghost use lib.ListN.{length, getD};
 ghost use Rattle.trace.specs.Premises.{Fits};
 ghost use Rattle.trace.specs.Trace.{Trace, size};
-ghost use Rattle.index.specs.Indexed.{Places};
 ghost use Rattle.index.specs.Steps.{ahead, Listed};
 ghost use Rattle.index.specs.Filling.{Copied};
-ghost use Rattle.states.specs.States.{Exhausted, nextOf, lowestLeft};
+ghost use Rattle.states.specs.States.{Exhausted};
 ghost use Rattle.courses.specs.Courses.{Opens, Begun, Entry, Cut, LeftOut, Ended};
 use walk::Walk;
 
@@ -193,47 +192,4 @@ pub fn walk_twice(
         held: held,
         whole: done,
     }
-}
-
-// Worker q's next operation, of n operations; n where it has none left.
-pub fn next_operation(
-    n: usize,
-    order: &[u16; 1024],
-    starts: &[u16; 17],
-    done: &[u16; 16],
-    q: usize,
-) -> usize
-    requires { ⌜ (q < 16) × (getD (now starts) (q + 1) 0 ≤ 1024) ⌝ }
-    ensures { λ r. ⌜ ((t : Trace) → Places t n (now (order .entry)) (now (starts .entry)) → q < t .workers
-        → r ≡ nextOf t (now (done .entry)) q) ⌝ }
-{
-    let at = basics::index(starts[q]) + basics::index(done[q]);
-    if at < basics::index(starts[q + 1]) {
-        return basics::index(order[at]);
-    }
-    n
-}
-
-// The lowest of the p workers' next operations; n where none has one left.
-pub fn lowest_left(
-    p: usize,
-    n: usize,
-    order: &[u16; 1024],
-    starts: &[u16; 17],
-    done: &[u16; 16],
-) -> usize
-    requires { ⌜ (p ≤ 16) × ((q : ℕ) → q < 16 → getD (now starts) (q + 1) 0 ≤ 1024) ⌝ }
-    ensures { λ r. ⌜ ((t : Trace) → Places t n (now (order .entry)) (now (starts .entry)) → p ≡ t .workers
-        → r ≡ lowestLeft t (now (done .entry)) p) ⌝ }
-{
-    let mut least = n;
-    let mut q: usize = 0;
-    while q < p {
-        let k = next_operation(n, order, starts, done, q);
-        q += 1;
-        if k < least {
-            least = k;
-        }
-    }
-    least
 }

@@ -1,16 +1,16 @@
 use borrow.Author.Needs.{needs}
-use Rattle.courses.proofs.Lookups.{lowest-none, lowest-new, lowest-old}
+use Rattle.places.proofs.Lookups.{lowest-none, lowest-new, lowest-old}
 use Rattle.states.specs.States.{lowestLeft}
 use Rattle.index.specs.Indexed.{Places}
 use Rattle.trace.specs.Trace.{Trace}
 use Prim.Native.Nat.{_-_, _<_, _≤_}
 use native.Mathlib.Omega.{arith}
 use mathlib.Core.Path.{_≡_, sym, _∙_}
-use Rattle.courses.proofs.lowest_left.Statement.{statement}
-use Rattle.courses.proofs.lowest_left.Tie as tie
-use Rattle.courses.proofs.lowest_left.Reads as reads
-use Rattle.courses.proofs.lowest_left.Lts as lts
-use Rattle.courses.proofs.next_operation.Reads as next-operation-reads
+use Rattle.places.proofs.lowest_left.Statement.{statement}
+use Rattle.places.proofs.lowest_left.Tie as tie
+use Rattle.places.proofs.lowest_left.Reads as reads
+use Rattle.places.proofs.lowest_left.Lts as lts
+use Rattle.places.proofs.next_operation.Reads as next-operation-reads
 
 abbrev Inv-loop : tie.InvT-loop
 Inv-loop p n order starts done least₀ q₀ least q =

@@ -1,11 +1,11 @@
-use Rattle.courses.proofs.Lookups.{next-found, next-past}
+use Rattle.places.proofs.Lookups.{next-found, next-past}
 use native.Mathlib.Omega.{arith}
 use mathlib.Core.Path.{_≡_, _∙_}
 use borrow.Author.Needs.{needs}
-use Rattle.courses.proofs.next_operation.Statement.{statement}
-use Rattle.courses.proofs.next_operation.Tie as tie
-use Rattle.courses.proofs.next_operation.Reads as reads
-use Rattle.courses.proofs.next_operation.Lts as lts
+use Rattle.places.proofs.next_operation.Statement.{statement}
+use Rattle.places.proofs.next_operation.Tie as tie
+use Rattle.places.proofs.next_operation.Reads as reads
+use Rattle.places.proofs.next_operation.Lts as lts
 use Rattle.basics.proofs.index.Reads as index-reads
 
 -- src/lib.rt:209:28

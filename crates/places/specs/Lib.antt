@@ -1,0 +1,1 @@
+-- No definitions: those of the crates `index` and `states`.
