@@ -7,7 +7,7 @@ use Rattle.accept.proofs.accept_if_done.Statement.{statement}
 use Rattle.accept.proofs.accept_if_done.Tie as tie
 use Rattle.accept.proofs.accept_if_done.Reads as reads
 use Rattle.accept.proofs.accept_if_done.Lts as lts
-use Rattle.courses.proofs.lowest_left.Reads as lowest-left-reads
+use Rattle.places.proofs.lowest_left.Reads as lowest-left-reads
 
 -- src/lib.rt:66:9
 lowest-left-requires : tie.Need-lowest-left-requires
