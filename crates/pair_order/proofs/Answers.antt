@@ -1,30 +1,37 @@
 -- What the call answers. In order: by the outcome of the questions; as the code comes to it; what the answer says.
 use mathlib.Core.Bool.{Bool, true, false}
 use mathlib.Core.List.{List}
-use mathlib.Core.Logic.{_⊎_, _↔_, _≢_}
+use mathlib.Core.Logic.{_⊎_, inl, inr, _↔_, _≢_}
 use mathlib.Core.Path.{_≡_, refl, sym, _∙_}
-use Prim.Native.Nat.{ℕ, _<_, _≤_}
+use native.Mathlib.Omega.{arith}
+use Prim.Native.Nat.{ℕ, _+_, _<_, _≤_}
 use lib.Dec.{leb}
+use lib.ListN.{getD}
+use Rattle.runs.specs.Workers.{earlier}
 use lib.IntN.{ℤ, pos, negsuc}
 use Rattle.basics.proofs.Booleans.{zero-one}
 use Rattle.trace.specs.Premises.{HoldsTrace}
 use Rattle.trace.specs.Reading.{Reading, refused, traceOf}
 use Rattle.trace.specs.Refusals.{by-earlier, by-this}
-use Rattle.trace.specs.Trace.{Trace, operation}
+use Rattle.trace.specs.Trace.{Trace, workerOf}
+use Rattle.trace.proofs.Fitting.{trace-fits}
 use Rattle.trace.proofs.Outcomes.{TellsRefusals, outcome-refused, outcome-reads}
 use Rattle.model.specs.Computed.{mustPrecedeIn, pairOrder}
 use Rattle.model.proofs.SharedOrder.{order-first, order-second, order-neither}
-use Rattle.walk.specs.declared.Walk.{Walk}
-use Rattle.walk.specs.Walks.{startWalk, nextOf, walkFrom}
-use Rattle.walk.proofs.EventBits.{trace-fits}
-use Rattle.simulation.proofs.Answers.{walk-must-precede}
+use Rattle.index.specs.Indexed.{Places}
+use Rattle.index.proofs.Lookups.{holds-places}
+use Rattle.states.specs.States.{nextOf}
+use Rattle.states.proofs.Answers.{exhausted-precedes}
+use Rattle.courses.specs.Courses.{Opens, Ended, LeftOut}
 use Rattle.accept.specs.declared.AcceptAnswer.the-variants as accept
 use Rattle.accept.specs.Acceptance.{AcceptedTrace, acceptAnswer}
+use Rattle.accept.proofs.Accepting.{handed-opens, parts-few}
 use Rattle.accept.proofs.Answers.{refused-answer}
 use Rattle.accept.proofs.Questions.{accepted-trace}
 use Rattle.pair_order.specs.declared.OrderAnswer.{OrderAnswer}
 use Rattle.pair_order.specs.declared.OrderAnswer.the-variants.{Ordered, Refused}
 use Rattle.pair_order.specs.Order.{pairReading, answerOf, orderAnswer}
+use Rattle.pair_order.specs.Premises.{Operations, Readable, Pair, NoPair}
 use Rattle.pair_order.specs.Refusals.{AcceptedNumbers, AcceptedPair, RefusedNumbers}
 use Rattle.pair_order.proofs.Questions.{pair-comes-out}
 
@@ -40,12 +47,11 @@ module _ (bytes : List ℕ) (a b : ℕ) where
 
 -- ---- as the code comes to it
 
--- must a precede b, by the walk without a
-pub walked-past : {bytes : List ℕ} {p n : ℕ} → HoldsTrace bytes p n → (a b : ℕ) → b < n → a ≢ b → {s w : Walk}
-    → s ≡ startWalk → w ≡ walkFrom (traceOf bytes) a s n → {q : ℕ} → q ≡ operation (traceOf bytes) b .worker → {k : ℕ}
-    → k ≡ nextOf (traceOf bytes) w q → leb k b ≡ mustPrecedeIn (traceOf bytes) a b
-walked-past h a b l d i j e f =
-    sym (rw (f, e, j, i, ← h .count) (walk-must-precede (trace-fits h) a b d (rw (h .count) l)))
+-- must a precede b, by the end of the walk without a
+pub walked-past : {bytes : List ℕ} {p n : ℕ} → HoldsTrace bytes p n → {a : ℕ} {done : List ℕ}
+    → Ended (traceOf bytes) a done → (b : ℕ) → b < n → a ≢ b → {k : ℕ}
+    → k ≡ nextOf (traceOf bytes) done (workerOf (traceOf bytes) b) → leb k b ≡ mustPrecedeIn (traceOf bytes) a b
+walked-past h x b l d e = sym (rw e (exhausted-precedes (trace-fits h) (x .exhausted) b d (rw (h .count) l)))
 
 -- the sign, by the two tests
 module _ (t : Trace) (a b : ℕ) {forward : Bool} (i : forward ≡ mustPrecedeIn t a b) where
@@ -59,8 +65,61 @@ module _ (t : Trace) (a b : ℕ) {forward : Bool} (i : forward ≡ mustPrecedeIn
     pub ordered-neither : backward ≡ false → Ordered (pos 0) ≡ Ordered (pairOrder t a b)
     ordered-neither f = rw (order-neither t a b (sym i ∙ e) (sym j ∙ f))
 
+-- worker and place of an operation, for the walk without it
+module _ {bytes : List ℕ} {p n : ℕ} {order starts list ends : List ℕ} (x : Readable bytes p n order starts list ends) where
+  pub readable-operations : Operations bytes n order starts
+  readable-operations = record { workers = p; holds = x .holds; indexed = x .handed .indexed }
+
+  pub readable-opens : Opens starts ends
+  readable-opens = handed-opens (x .holds) (x .handed)
+
+  pub readable-left-out : {a q rank : ℕ} → a < n → q ≡ workerOf (traceOf bytes) a
+      → rank ≡ earlier (workerOf (traceOf bytes)) a → LeftOut (traceOf bytes) p starts list ends q rank a
+  readable-left-out l e i =
+      record {
+        fits = trace-fits (x .holds);
+        workers = x .holds .workers;
+        listed = x .handed .listed;
+        below = rw (x .holds .count) l;
+        own = sym e;
+        ahead = sym i;
+      }
+
+  -- by the counts of the accepted file, which are the same
+  pub readable-same : {w m : ℕ} → HoldsTrace bytes w m → Readable bytes w m order starts list ends
+  readable-same h = record { holds = h; handed = x .handed }
+
+  pub pair-same : {w m a b : ℕ} → HoldsTrace bytes w m → Pair n a b → Pair m a b
+  pair-same h y =
+      let same = sym (x .holds .count) ∙ h .count in
+      record {
+        first-below = omega (arith, y .first-below, same);
+        second-below = omega (arith, y .second-below, same);
+        differ = y .differ;
+      }
+
+module _ {bytes : List ℕ} {n : ℕ} {order starts : List ℕ} (x : Operations bytes n order starts) where
+  pub operations-places : Places (traceOf bytes) n order starts
+  operations-places = holds-places (x .holds) (x .indexed)
+
+  -- the worker of an operation
+  pub worker-known : {k q : ℕ} → k < n → q ≡ workerOf (traceOf bytes) k → q < traceOf bytes .workers
+  worker-known l e = rw (e, x .holds .workers) (x .holds .each _ l .worker)
+
+  pub worker-low : {k q : ℕ} → k < n → q ≡ workerOf (traceOf bytes) k
+      → (q < 16) × (getD starts (q + 1) 0 ≤ 1024)
+  worker-low {q = q} l e =
+      let low : q < 16 = omega (arith, worker-known l e, x .holds .workers, x .holds .most) in
+      (low, parts-few (x .holds) (x .indexed) q low)
+
 module _ {bytes : List ℕ} {p n : ℕ} (h : AcceptedTrace bytes (traceOf bytes) × HoldsTrace bytes p n) (a b : ℕ)
   where
+    -- no pair, and both below n: the same number
+    pub none-same : {w m : ℕ} → HoldsTrace bytes w m → NoPair m a b → a < n → b < n → a ≡ b
+    none-same x (inl l) i j = absurd (omega (arith, l, i, h .1 .count, x .count))
+    none-same x (inr (inl l)) i j = absurd (omega (arith, l, j, h .1 .count, x .count))
+    none-same x (inr (inr e)) i j = e
+
     pub answer-high : (n ≤ a) ⊎ (n ≤ b) → Refused 12 0 ≡ orderAnswer bytes a b
     answer-high s = answer-by bytes a b (pair-comes-out bytes a b .refuses 12 0 .1 (by-earlier high))
       where
