@@ -1,2 +1,2 @@
--- Writing: what is written, turn by turn; the run in two walks; a run at the front of a buffer.
-pub mod Writing
+-- The laws of writing a run. Turns: turn by turn.
+pub mod Turns

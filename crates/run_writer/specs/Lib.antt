@@ -1,2 +1,2 @@
--- Premises: means, what the functions know and do. No demand rests on it.
-pub mod Premises
+-- Writing a run, a means: Writing.
+pub mod Writing

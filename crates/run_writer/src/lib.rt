@@ -1,96 +1,70 @@
 // Writing the run that holds an operation back.
+ghost use mathlib.Core.List.{List};
 ghost use mathlib.Core.Path.{_≡_};
-ghost use lib.ListN.{length, take, drop};
-ghost use Rattle.trace.specs.Reading.{traceOf};
-ghost use Rattle.model.specs.Computed.{heldBackRun};
-ghost use Rattle.walk.specs.Walks.{Walkable};
-ghost use Rattle.run_writer.specs.Premises.{Copies, WritesWalk, Runnable};
-use walk::Walk;
+ghost use Prim.Native.Nat.{ℕ, _+_, _<_, _≤_};
+ghost use lib.ListN.{length, drop};
+ghost use lib.Seq.{paste};
+ghost use Rattle.trace.specs.Trace.{Trace};
+ghost use Rattle.index.specs.Indexed.{Places};
+ghost use Rattle.courses.specs.Courses.{Opens, LeftOut};
+ghost use Rattle.run_writer.specs.Writing.{Written, Writing, WritesRun};
 
-// Where a walk has got to, and how many operations it added.
-struct Reached {
-    walk: Walk,
-    count: usize,
+// The done counts at the end of the walk without an operation, and, with that let in, at the end of the whole walk.
+pub struct Ends {
+    pub held: [u16; 16],
+    pub whole: [u16; 16],
 }
 
-// Copies the operations that stand in the order from place `from` on.
-fn copy_places(order: &[u16; 1024], from: usize, part: &mut [u16])
-    requires { ⌜ Copies (now order) from (now part) ⌝ }
-    ensures { λ r. ⌜ now (part .exit) ≡ take (length (now (part .entry))) (drop from (now (order .entry))) ⌝ }
+// Copies so many operations, those from place `from` of the order on, to places `at` and on of the run.
+fn copy(order: &[u16; 1024], from: usize, count: usize, run: &mut [u16; 1024], at: usize)
+    requires { ⌜ (from + count ≤ 1024)
+        × (from + count ≤ length (now order))
+        × (at + count ≤ 1024)
+        × (length (now run) ≡ 1024) ⌝ }
+    ensures { λ r. ⌜ now (run .exit) ≡ paste (now (run .entry)) at (drop from (now (order .entry))) count ⌝ }
 {
-    let mut i = 0;
-    while i < part.len() {
-        part[i] = order[from + i];
+    let mut i: usize = 0;
+    while i < count {
+        run[at + i] = order[from + i];
         i += 1;
     }
 }
 
-// Writes the operations that the walk from `start` adds, as far as the part reaches: turn by turn, the stretch of the
-// order that the worker went.
+// Goes on with a walk until no worker is ready, the lowest-numbered worker first, and writes down what it adds: turn by
+// turn, the stretch of the order that the worker went. Answers how long the run is then.
 fn write_walk(
-    file: &[u8],
-    p: usize,
-    n: usize,
     order: &[u16; 1024],
     starts: &[u16; 17],
-    left_out: usize,
-    start: Walk,
-    part: &mut [u16],
-) -> Reached
-    requires { ⌜ Walkable (now file) p n (now order) (now starts) ⌝ }
-    ensures { λ r. ⌜ WritesWalk (traceOf (now (file .entry))) «left_out» start (now (part .entry)) r
-        (now (part .exit)) ⌝ }
+    list: &[u32; 1024],
+    ends: &[u16; 16],
+    lasts: &[u16; 16],
+    start: u16,
+    nexts: &mut [u16; 16],
+    done: &mut [u16; 16],
+    events: &mut [u64; 4],
+    waiting: &mut [u16; 256],
+    from: usize,
+    run: &mut [u16; 1024],
+) -> usize
+    requires { ⌜ Writing (now order) (now starts) (now list) (now ends) (now lasts) (now nexts) (now done) (now events)
+        (now waiting) start from (now run) ⌝ }
+    ensures { λ r. ⌜ ((t : Trace) (n a : ℕ) (base : List ℕ) → n ≤ 1024
+        → Places t n (now (order .entry)) (now (starts .entry))
+        → Written t a base (now (list .entry)) (now (ends .entry)) (now (lasts .entry)) (now (nexts .entry))
+        (now (done .entry)) (now (events .entry)) (now (waiting .entry)) start from (now (run .entry))
+        → Written t a base (now (list .entry)) (now (ends .entry)) (now (lasts .entry)) (now (nexts .exit))
+        (now (done .exit)) (now (events .exit)) (now (waiting .exit)) 0 r (now (run .exit))) ⌝ }
 {
-    let mut done = start.done;
-    let mut events = start.events;
-    let mut notes = [0u16; 16];
-    let mut at: usize = 0;
-    let mut q: usize = 0;
-    while q < p {
-        let from = walk::next_place(starts, &done, q);
-        let left = part.len() - at;
-        let next = walk::turn(
-            file,
-            order,
-            starts,
-            left_out,
-            left,
-            q,
-            &mut notes,
-            &mut done,
-            &mut events,
-        );
-        let end = at + (walk::next_place(starts, &done, q) - from);
-        copy_places(order, from, &mut part[at..end]);
-        at = end;
-        q = walk::next_free(p, &notes, &events, next);
+    let mut ready = start;
+    let mut at = from;
+    while ready != 0 {
+        let q = masks::lowest(ready);
+        let w = q as usize;
+        let before = basics::index(done[w]);
+        ready = walk::turn(list, ends, lasts, true, ready, q, nexts, done, events, waiting);
+        let more = basics::index(done[w]) - before;
+        copy(order, basics::index(starts[w]) + before, more, run, at);
+        at += more;
     }
-    Reached {
-        walk: Walk {
-            done: done,
-            events: events,
-        },
-        count: at,
-    }
-}
-
-// Writes the run that holds operation b back: the walk without b, and from where it ends the walk with nothing left
-// out.
-pub fn write_run(
-    file: &[u8],
-    p: usize,
-    n: usize,
-    order: &[u16; 1024],
-    starts: &[u16; 17],
-    b: usize,
-    part: &mut [u16],
-)
-    requires { ⌜ Runnable (now file) p n (now order) (now starts) × (length (now part) ≡ n) ⌝ }
-    ensures { λ r. ⌜ now (part .exit) ≡ heldBackRun (traceOf (now (file .entry))) b ⌝ }
-{
-    let start = walk::start_walk();
-    let reached = write_walk(file, p, n, order, starts, b, start, part);
-    let at = reached.count;
-    let w = reached.walk;
-    write_walk(file, p, n, order, starts, n, w, &mut part[at..n]);
+    at
 }

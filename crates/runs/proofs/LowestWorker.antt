@@ -1,16 +1,18 @@
 -- "The lowest-numbered worker whose next operation may run" (document 01, "Two runs"). In order: the first in the
--- canonical order that can be added is of that worker; there is one such operation; several steps; one step of a walk; the greedy
--- run is the run that lets the lowest-numbered worker go first, and there is one such run.
+-- canonical order that can be added is of that worker; there is one such operation; several steps, and with nothing left
+-- out; one step of a walk; the greedy run is the run that lets the lowest-numbered worker go first, and there is one such
+-- run.
 use mathlib.Core.Path.{_≡_, refl, ap}
-use mathlib.Core.Bool.{Bool}
+use mathlib.Core.Bool.{Bool, not}
 use mathlib.Core.List.{List, [], _∷_, _++_, List·Memᴰ·head, List·Memᴰ·tail}
 use mathlib.Core.Option.{Option, none, some}
 use Prim.Native.Nat.{ℕ, zero, suc, _≤_}
 use native.Mathlib.Omega.{arith}
 use native.Mathlib.Nat.{le-refl}
-use lib.Dec.{T, T-not}
+use lib.Dec.{T, T-not, not-T, eqb, eqb→eq}
 use Rattle.basics.specs.Membership.{_∈_}
-use Rattle.runs.specs.Rule.{Rule, Monotone}
+use Rattle.basics.proofs.Booleans.{and-left, and-intro}
+use Rattle.runs.specs.Rule.{Rule, Monotone, without}
 use Rattle.runs.specs.Run.{Run}
 use Rattle.runs.specs.Steps.{Addable, Closed, done, addable}
 use Rattle.runs.specs.Greedy.{Preference, firstThat, foundThen, greedyFrom}
@@ -62,6 +64,29 @@ module _ {worker : ℕ → ℕ} {R : Rule} where
   pub lowest-ends : {d s : List ℕ} → LowestSteps worker R d s → Closed R (done d s) → LowestFirst worker R d s
   lowest-ends no-step c = none-can c
   lowest-ends (one-step a p) c = moves a (lowest-ends p c)
+
+-- without what is no operation, nothing is left out
+module _ {R : Rule} where
+  none-addable : {d : List ℕ} {x : ℕ} → Addable (without R (R .size)) d x → Addable R d x
+  none-addable {d} {x} a =
+      record { below = a .below; new = a .new; allowed = and-left (R .may d x) (not (eqb x (R .size))) (a .allowed) }
+
+  addable-none : {d : List ℕ} {x : ℕ} → Addable R d x → Addable (without R (R .size)) d x
+  addable-none {d} {x} a =
+      record {
+        below = a .below;
+        new = a .new;
+        allowed = and-intro (R .may d x) (not (eqb x (R .size))) (a .allowed)
+            (not-T (eqb x (R .size)) (λ e. omega (arith, a .below, eqb→eq x (R .size) e)));
+      }
+
+  pub lowest-whole : {worker : ℕ → ℕ} {d s : List ℕ} → LowestSteps worker (without R (R .size)) d s → LowestSteps worker R d s
+  lowest-whole no-step = no-step
+  lowest-whole (one-step a p) =
+      one-step (record { can = none-addable (a .can); lowest = λ i. a .lowest (addable-none i) }) (lowest-whole p)
+
+  pub closed-whole : {d : List ℕ} → Closed (without R (R .size)) d → Closed R d
+  closed-whole c = record { none = λ i. c .none (addable-none i) }
 
 module _ {worker : ℕ → ℕ} {R : Rule} {order : List ℕ}
     (up : Ascending worker order) (all : Preference (R .size) order) where
