@@ -28,7 +28,7 @@ pub fn begin(starts: &[u16; 17], nexts: &mut [u16; 16], lasts: &mut [u16; 16])
 }
 
 // Where each worker's list ends.
-fn copy_ends(ends: &[u16; 16], stops: &mut [u16; 16])
+pub fn copy_ends(ends: &[u16; 16], stops: &mut [u16; 16])
     requires { ⌜ length (now stops) ≡ 16 ⌝ }
     ensures { λ r. ⌜ Copied (now (ends .entry)) (now (stops .exit)) 16 ⌝ }
 {
@@ -62,7 +62,7 @@ fn entry_from(list: &[u32; 1024], from: usize, end: usize, rank: u32) -> usize
 }
 
 // Worker q's list ends before its operation of this rank.
-fn cut(
+pub fn cut(
     list: &[u32; 1024],
     starts: &[u16; 17],
     q: usize,

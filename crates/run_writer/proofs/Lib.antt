@@ -1,2 +1,3 @@
--- The laws of writing a run. Turns: turn by turn.
+-- The laws of writing a run. Turns: turn by turn. Runs: the run that holds an operation back, in two walks.
 pub mod Turns
+pub mod Runs

@@ -28,7 +28,7 @@ use Rattle.index.proofs.Lookups.{part-count, part-numbers, part-start, places-i
 use Rattle.states.specs.States.{EndsRun}
 use Rattle.states.proofs.Ends.{run-count}
 use Rattle.walk.specs.Going.{Going, stretch, Turned}
-use Rattle.run_writer.specs.Writing.{Written}
+use Rattle.run_writer.specs.Writing.{Written, Writing}
 
 module _ {t : Trace} {n : ℕ} {order starts : List ℕ} (x : Places t n order starts) {q : ℕ} (known : q < t .workers) where
   low : q < 16
@@ -159,6 +159,37 @@ module _ {t : Trace} {n : ℕ} {order starts : List ℕ} (x : Places t n order s
 
       together : base ++ (w .more ++ stretch t q i j) ≡ (base ++ w .more) ++ stretch t q i j
       together = sym (append-assoc base (w .more) (stretch t q i j))
+
+-- the same, of some trace
+module _ {order starts list ends lasts nexts counts events waiting : List ℕ} {ready at : ℕ} {run : List ℕ}
+    (w : Writing order starts list ends lasts nexts counts events waiting ready at run)
+    {q : ℕ} (first : masks.Lowest ready q) {nexts′ counts′ events′ waiting′ : List ℕ} {ready′ : ℕ}
+    (u : Turned list ends lasts true q nexts counts events waiting ready nexts′ counts′ events′ waiting′ ready′) where
+  pub writing-on : getD counts q 0 ≤ getD counts′ q 0
+  writing-on = turn-on (w .places) (w .few) (w .written) first u
+
+  pub writing-place : getD starts q 0 + getD counts′ q 0 ≤ 1024
+  writing-place = turn-place (w .places) (w .few) (w .written) first u
+
+  pub writing-inside : getD starts q 0 + getD counts′ q 0 ≤ length order
+  writing-inside = turn-inside (w .places) (w .few) (w .written) first u
+
+  pub writing-room : at + (getD counts′ q 0 - getD counts q 0) ≤ 1024
+  writing-room = turn-room (w .places) (w .few) (w .written) first u
+
+  pub writing-turn : Writing order starts list ends lasts nexts′ counts′ events′ waiting′ ready′
+      (at + (getD counts′ q 0 - getD counts q 0))
+      (paste run at (drop (getD starts q 0 + getD counts q 0) order) (getD counts′ q 0 - getD counts q 0))
+  writing-turn =
+      record {
+        trace = w .trace;
+        count = w .count;
+        few = w .few;
+        places = w .places;
+        out = w .out;
+        base = w .base;
+        written = written-turn (w .places) (w .few) (w .written) first u;
+      }
 
 -- ---- one number more
 

@@ -13,7 +13,7 @@ use Rattle.model.specs.Computed.{heldBackRun}
 use Rattle.model.specs.Rule.{rule}
 use Rattle.index.specs.Indexed.{Places}
 use Rattle.walk.specs.Going.{Going, Sized}
-use Rattle.courses.specs.Courses.{Ended}
+use Rattle.courses.specs.Courses.{Opens, Ended, LeftOut}
 
 -- the walk without a has gone on from the run `base`, the lowest-numbered worker first at each step; the run that it has
 -- got to stands in the first `at` numbers
@@ -37,6 +37,17 @@ pub record Writing (order starts list ends lasts nexts counts events waiting : L
     pub out : ℕ
     pub base : List ℕ
     pub written : Written trace out base list ends lasts nexts counts events waiting ready at run
+
+-- for some trace of p workers and at most 1,024 operations, whose index this is: worker q's operation of this rank is
+-- left out first
+pub record Runnable (p : ℕ) (order starts list ends : List ℕ) (q rank : ℕ) : Type 0 where
+  pub trace : Trace
+  pub count : ℕ
+  pub few : count ≤ 1024
+  pub places : Places trace count order starts
+  pub opens : Opens starts ends
+  pub out : ℕ
+  pub left-out : LeftOut trace p starts list ends q rank out
 
 -- the done counts at the end of the walk without b, and at the end of the whole one; and the run that holds b back
 pub record WritesRun (t : Trace) (b : ℕ) (held whole run : List ℕ) : Type 0 where

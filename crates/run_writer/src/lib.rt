@@ -6,8 +6,8 @@ ghost use lib.ListN.{length, drop};
 ghost use lib.Seq.{paste};
 ghost use Rattle.trace.specs.Trace.{Trace};
 ghost use Rattle.index.specs.Indexed.{Places};
-ghost use Rattle.courses.specs.Courses.{Opens, LeftOut};
-ghost use Rattle.run_writer.specs.Writing.{Written, Writing, WritesRun};
+ghost use Rattle.courses.specs.Courses.{LeftOut};
+ghost use Rattle.run_writer.specs.Writing.{Written, Writing, Runnable, WritesRun};
 
 // The done counts at the end of the walk without an operation, and, with that let in, at the end of the whole walk.
 pub struct Ends {
@@ -67,4 +67,50 @@ fn write_walk(
         at += more;
     }
     at
+}
+
+// Writes the run that holds worker q's operation of this rank back: the walk of p workers without it, and from where that
+// ends the walk with nothing left out.
+pub fn write_run(
+    p: usize,
+    order: &[u16; 1024],
+    starts: &[u16; 17],
+    list: &[u32; 1024],
+    ends: &[u16; 16],
+    q: usize,
+    rank: u16,
+    run: &mut [u16; 1024],
+) -> Ends
+    requires { ⌜ (p ≤ 16)
+        × (q < 16)
+        × Runnable p (now order) (now starts) (now list) (now ends) q rank
+        × (length (now run) ≡ 1024) ⌝ }
+    ensures { λ r. ⌜ ((t : Trace) (n b : ℕ) → n ≤ 1024 → Places t n (now (order .entry)) (now (starts .entry))
+        → LeftOut t p (now (starts .entry)) (now (list .entry)) (now (ends .entry)) q rank b
+        → WritesRun t b (r .held) (r .whole) (now (run .exit))) ⌝ }
+{
+    let mut nexts = [0u16; 16];
+    let mut lasts = [0u16; 16];
+    let mut stops = [0u16; 16];
+    let mut done = [0u16; 16];
+    let mut events = [0u64; 4];
+    let mut waiting = [0u16; 256];
+    courses::begin(starts, &mut nexts, &mut lasts);
+    courses::copy_ends(ends, &mut stops);
+    courses::cut(list, starts, q, rank, &mut stops, &mut lasts);
+    let all = masks::below(p as u32);
+    let at = write_walk(
+        order, starts, list, &stops, &lasts, all, &mut nexts, &mut done, &mut events, &mut waiting, 0, run,
+    );
+    let held = done;
+    stops[q] = ends[q];
+    lasts[q] = starts[q + 1] - starts[q];
+    let own = masks::with(0, q as u32);
+    write_walk(
+        order, starts, list, &stops, &lasts, own, &mut nexts, &mut done, &mut events, &mut waiting, at, run,
+    );
+    Ends {
+        held: held,
+        whole: done,
+    }
 }

@@ -10,14 +10,18 @@ use lib.Bits.{bitOr, or-zero-r}
 use lib.ListN.{length, getD, set, length-set}
 use lib.Seq.{getD-set-same, getD-set-other}
 use Rattle.basics.proofs.Booleans.{equal?}
+use Rattle.runs.specs.Rule.{without}
+use Rattle.runs.specs.Steps.{Closed, done}
 use Rattle.trace.specs.Premises.{Fits}
 use Rattle.trace.specs.Trace.{Trace}
 use Rattle.masks.specs.Masks.{_isIn_, Without}
 use Rattle.masks.specs.Masks as masks
 use Rattle.masks.proofs.Sets.{in-none, in-either, in-left, in-right}
+use Rattle.model.specs.Rule.{rule}
 use Rattle.index.specs.Steps.{Follows}
-use Rattle.states.specs.States.{Exhausted, nextOf}
-use Rattle.states.proofs.Runs.{ends-exhausted}
+use Rattle.states.specs.States.{Exhausted, Blocked, nextOf}
+use Rattle.states.proofs.Moves.{blocked-closed}
+use Rattle.states.proofs.Runs.{ends-counted, ends-exhausted}
 use Rattle.walk.specs.Going.{Stopped, Awake, Going, stretch, Moved, LowerStopped, Lowest, Went, Sized, sum, left}
 use Rattle.walk.specs.Going.{Turned, Walked}
 use Rattle.walk.proofs.Releasing.{still, stopped-blocked}
@@ -180,8 +184,15 @@ walked-turn {d′ = d′} {d″ = d″} {q = q} x y =
 
 -- ---- the end
 
--- where nobody is ready, nothing but a can be added
-pub going-exhausted : {t : Trace} → Fits t → {a out : ℕ} {r list ends lasts nexts counts events waiting : List ℕ}
-    → Going t a out r list ends lasts nexts counts events waiting 0 → Exhausted t a r counts events
-going-exhausted f x =
-    ends-exhausted (x .run) f (λ q l. elim (x .stands q l) [ inl i ↦ absurd (in-none i) | inr i ↦ stopped-blocked i ])
+module _ {t : Trace} (f : Fits t) {a out : ℕ} {r list ends lasts nexts counts events waiting : List ℕ}
+    (x : Going t a out r list ends lasts nexts counts events waiting 0) where
+  -- where nobody is ready, nobody can go on
+  all-blocked : (q : ℕ) → q < t .workers → Blocked t a events (nextOf t counts q)
+  all-blocked q l = elim (x .stands q l) [ inl i ↦ absurd (in-none i) | inr i ↦ stopped-blocked i ]
+
+  -- so nothing but a can be added
+  pub going-closed : Closed (without (rule t) a) (done [] r)
+  going-closed = blocked-closed (x .run .shows) (ends-counted (x .run)) a f all-blocked
+
+  pub going-exhausted : Exhausted t a r counts events
+  going-exhausted = ends-exhausted (x .run) f all-blocked

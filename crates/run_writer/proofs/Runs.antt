@@ -1,0 +1,94 @@
+-- The run that holds an operation back, in two walks. In order: the start; the operation is let in; the run.
+use mathlib.Core.List.{List, [], _∷_, _++_, append-nil}
+use mathlib.Core.Path.{_≡_, refl, sym, ap, _∙_}
+use native.Mathlib.Omega.{arith}
+use Prim.Native.Nat.{ℕ, _+_, _-_, _<_, _≤_}
+use lib.ListN.{length, getD, set, take, replicate}
+use Rattle.runs.specs.Workers.{HoldsBack, no-step}
+use Rattle.runs.proofs.Done.{done-append}
+use Rattle.runs.proofs.HoldingBack.{holds-back-unique}
+use Rattle.runs.proofs.LowestWorker.{lowest-ends, lowest-whole, closed-whole}
+use Rattle.trace.specs.Premises.{Fits}
+use Rattle.trace.specs.Trace.{Trace, size, workerOf}
+use Rattle.masks.specs.Masks.{Below, With}
+use Rattle.model.specs.Computed.{heldBackRun}
+use Rattle.model.specs.Rule.{rule}
+use Rattle.model.proofs.RuleLaws.{rule-monotone, rule-in-turn, order-ascending, order-preference}
+use Rattle.index.specs.Filling.{Copied}
+use Rattle.states.proofs.Answers.{workers-known}
+use Rattle.walk.specs.Going.{Sized}
+use Rattle.walk.proofs.Turns.{going-closed, going-exhausted}
+use Rattle.courses.specs.Courses.{Opens, Begun, Cut, LeftOut}
+use Rattle.courses.proofs.Starting.{start-sized, cut-opens, let-in-sized, courses-cut, going-start, going-let-in}
+use Rattle.run_writer.specs.Writing.{Written, WritesRun}
+
+module _ {t : Trace} {p : ℕ} {starts list ends : List ℕ} {q rank b : ℕ} (x : LeftOut t p starts list ends q rank b)
+    (o : Opens starts ends) {nexts lasts stops stops′ lasts′ : List ℕ} (begun : Begun starts nexts lasts 16)
+    (same : Copied ends stops 16) (low : q < 16) (y : Cut list starts stops lasts q rank stops′ lasts′) where
+  -- ---- the start
+
+  pub written-start : {all : ℕ} → Below p all → {run : List ℕ} → length run ≡ 1024
+      → Written t b [] list stops′ lasts′ nexts (replicate 16 0) (replicate 4 0) (replicate 256 0) all 0 run
+  written-start all room =
+      record {
+        more = [];
+        going = going-start (x .fits) (courses-cut x begun same low y) (λ r l. begun .each r l .0)
+            (rw (← x .workers) at all);
+        lowest = no-step;
+        sized = start-sized (cut-opens o begun same low y) begun refl refl refl;
+        long = refl;
+        room = room;
+        front = refl;
+      }
+
+  module _ {nexts′ counts events waiting run : List ℕ} {at : ℕ}
+      (w : Written t b [] list stops′ lasts′ nexts′ counts events waiting 0 at run) where
+    -- ---- the operation is let in
+
+    pub written-let-in : {own : ℕ} → With 0 q own
+        → Written t (size t) (w .more) list (set stops′ q (getD ends q 0))
+        (set lasts′ q (getD starts (q + 1) 0 - getD starts q 0)) nexts′ counts events waiting own at run
+    written-let-in own =
+        record {
+          more = [];
+          going = rw append-nil (going-let-in x begun same low y (w .going) own);
+          lowest = no-step;
+          sized = let-in-sized o begun same low y (w .sized);
+          long = rw append-nil (w .long);
+          room = w .room;
+          front = rw append-nil (w .front);
+        }
+
+    -- ---- the run
+
+    module _ {stops″ lasts″ nexts″ counts″ events″ waiting″ run″ : List ℕ} {at″ : ℕ}
+        (v : Written t (size t) (w .more) list stops″ lasts″ nexts″ counts″ events″ waiting″ 0 at″ run″) where
+      holds : HoldsBack (workerOf t) (rule t) b (w .more ++ v .more)
+      holds =
+          record {
+            without-b = w .more;
+            on = v .more;
+            parts = refl;
+            other-than-b = lowest-ends (w .lowest) (going-closed (x .fits) (w .going));
+            to-the-end = lowest-ends (lowest-whole {R = rule t} (v .lowest))
+                (rw (done-append [] (w .more) (v .more)) at (closed-whole {R = rule t} (going-closed (x .fits) (v .going))));
+          }
+
+      held-back : w .more ++ v .more ≡ heldBackRun t b
+      unfolding heldBackRun
+      held-back =
+          holds-back-unique (rule-monotone t) (order-ascending t) (order-preference (workers-known (x .fits)))
+          (rule-in-turn t) b holds
+
+      pub writes-run : WritesRun t b counts counts″ run″
+      writes-run =
+          record {
+            without-b = record { run = w .more; events = events; exhausted = going-exhausted (x .fits) (w .going) };
+            whole-run = record {
+              run = w .more ++ v .more;
+              events = events″;
+              exhausted = going-exhausted (x .fits) (v .going);
+            };
+            front = rw (← held-back, v .long) (v .front);
+            room = v .room;
+          }
