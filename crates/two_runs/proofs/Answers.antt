@@ -1,23 +1,21 @@
 -- What the call answers and leaves in the two buffers. In order: the order of the pair, as the code tests it; by the
 -- outcome of the questions; as the code comes to it; what the answer says.
+use mathlib.Core.Bool.{true, false}
 use mathlib.Core.List.{List}
-use mathlib.Core.Logic.{_⊎_, inl, inr, _↔_, Iff·trans, _≢_}
+use mathlib.Core.Logic.{_⊎_, inl, inr, _↔_, Iff·trans}
 use mathlib.Core.Path.{_≡_, refl, sym, _∙_}
-use native.Mathlib.Omega.{arith}
 use Prim.Native.Nat.{ℕ, _<_, _≤_}
-use lib.IntN.{ℤ, pos, negsuc}
+use lib.IntN.{pos}
 use lib.ListN.{length}
-use mir.Syntax.{w8}
-use mir.Val.{ofZ}
-use Rattle.basics.proofs.Booleans.{zero-one}
+use Rattle.basics.proofs.Booleans.{test-true, zero-one}
 use Rattle.trace.specs.Premises.{HoldsTrace}
 use Rattle.trace.specs.Reading.{Reading, refused, traceOf}
 use Rattle.trace.specs.Refusals.{by-earlier, by-this}
 use Rattle.trace.specs.Trace.{Trace, size}
 use Rattle.trace.proofs.Outcomes.{TellsRefusals, outcome-refused, outcome-passes}
-use Rattle.model.specs.Computed.{pairOrder}
+use Rattle.model.specs.Computed.{mustPrecedeIn}
 use Rattle.model.specs.Orders.{MustPrecedeIn}
-use Rattle.model.proofs.SharedOrder.{pair-order-zero, pair-order-some, pair-order-one-of}
+use Rattle.model.proofs.SharedOrder.{must-precede-in-test, order-neither, pair-order-zero}
 use Rattle.accept.specs.declared.AcceptAnswer.the-variants as accept
 use Rattle.accept.specs.Acceptance.{AcceptedTrace, acceptAnswer}
 use Rattle.accept.proofs.Questions.{accepted-workers, accepted-trace, accepted-same}
@@ -36,31 +34,22 @@ use Rattle.two_runs.proofs.Questions.{runs-comes-out}
 
 -- ---- the order of the pair
 
--- it is 0 exactly if its eight bits are
-order-bits : (t : Trace) (a b : ℕ) → (ofZ w8 (pairOrder t a b) ≡ 0) ↔ (pairOrder t a b ≡ pos 0)
-order-bits t a b = go (pairOrder t a b) (pair-order-one-of t a b)
-  where
-    go : (z : ℤ) → (z ≡ negsuc 0) ⊎ (z ≡ pos 1) ⊎ (z ≡ pos 0) → (ofZ w8 z ≡ 0) ↔ (z ≡ pos 0)
-    go z (inl e) = rw e (λ i. absurd (omega (arith, i)), λ i. absurd (zero-one cc))
-    go z (inr (inl e)) = rw e (λ i. absurd (omega (arith, i)), λ i. absurd (zero-one cc))
-    go z (inr (inr e)) = rw e (λ i. refl, λ i. refl)
+module _ {bytes : List ℕ} {a b : ℕ} (h : AcceptedPair bytes a b (traceOf bytes)) where
+  -- neither must precede the other
+  pub pair-unordered : mustPrecedeIn (traceOf bytes) a b ≡ false → mustPrecedeIn (traceOf bytes) b a ≡ false
+      → AcceptedUnordered bytes a b (traceOf bytes)
+  pair-unordered e i =
+      let zero = order-neither (traceOf bytes) a b e i in
+      record { pair = h; unordered = pair-order-zero (accepted-workers (h .numbers .accepted)) a b .0 zero }
 
--- the code tests the bits
-module _ (bytes : List ℕ) (a b : ℕ) {sign : ℤ} (o : orderAnswer bytes a b ≡ order.Ordered sign) where
-  known : AcceptedPair bytes a b (traceOf bytes) × (sign ≡ pairOrder (traceOf bytes) a b)
-  known = order-ordered bytes a b sign o
+  must : (x y : ℕ) → mustPrecedeIn (traceOf bytes) x y ≡ true → MustPrecedeIn (traceOf bytes) x y
+  must x y e = must-precede-in-test (accepted-workers (h .numbers .accepted)) x y .0 (test-true _ .0 e)
 
-  pub pair-unordered : ofZ w8 sign ≡ 0 → AcceptedUnordered bytes a b (traceOf bytes)
-  pair-unordered e =
-      let zero = order-bits (traceOf bytes) a b .0 (rw (known .1) at e) in
-      let unordered = pair-order-zero (accepted-workers (known .0 .numbers .accepted)) a b .0 zero in
-      record { pair = known .0; unordered = unordered }
-
-  pair-ordered : (ofZ w8 sign ≡ 0 → ⊥) → MustPrecedeIn (traceOf bytes) a b ⊎ MustPrecedeIn (traceOf bytes) b a
-  pair-ordered d = pair-order-some (accepted-workers (known .0 .numbers .accepted)) a b some
-    where
-      some : pairOrder (traceOf bytes) a b ≢ pos 0
-      some e = d (rw (known .1) (order-bits (traceOf bytes) a b .1 e))
+  -- one must
+  pair-ordered : (mustPrecedeIn (traceOf bytes) a b ≡ true) ⊎ (mustPrecedeIn (traceOf bytes) b a ≡ true)
+      → MustPrecedeIn (traceOf bytes) a b ⊎ MustPrecedeIn (traceOf bytes) b a
+  pair-ordered (inl e) = inl (must a b e)
+  pair-ordered (inr e) = inr (must b a e)
 
 module _ (bytes : List ℕ) (a b : ℕ) (first second : List ℕ) where
   -- ---- by the outcome of the questions
@@ -98,12 +87,13 @@ module _ (bytes : List ℕ) (a b : ℕ) (first second : List ℕ) where
         runs : AcceptedRuns bytes a b (length first) (length second) (traceOf bytes)
         runs = record { accepted = f; first-holds = rw (h .count) i; second-holds = rw (h .count) j }
 
-  pub call-ordered : {sign : ℤ} → orderAnswer bytes a b ≡ order.Ordered sign → (ofZ w8 sign ≡ 0 → ⊥)
+  pub call-ordered : AcceptedPair bytes a b (traceOf bytes)
+      → (mustPrecedeIn (traceOf bytes) a b ≡ true) ⊎ (mustPrecedeIn (traceOf bytes) b a ≡ true)
       → RunsCall bytes a b first second (Refused 14 0) first second
-  call-ordered o d = by-no (by-earlier ordered)
+  call-ordered h s = by-no (by-earlier ordered)
     where
       ordered : RefusedOrdered bytes a b 14 0
-      ordered = by-this (traceOf bytes) (known bytes a b o .0) (pair-ordered bytes a b o d) refl refl
+      ordered = by-this (traceOf bytes) h (pair-ordered h s) refl refl
 
   pub call-unpaired : {q k : ℕ} → orderAnswer bytes a b ≡ order.Refused q k
       → RunsCall bytes a b first second (Refused q k) first second

@@ -2,4 +2,5 @@
 -- what is in them then.
 pub mod Questions
 pub mod Answers
+pub mod Found
 pub mod Buffers

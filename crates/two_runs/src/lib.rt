@@ -1,14 +1,17 @@
 // Two complete runs of a file's trace for a pair of operations that is not ordered, written to two lent buffers.
+ghost use mathlib.Core.Bool.{false};
+ghost use mathlib.Core.Path.{_≡_};
 ghost use Prim.Native.Nat.{_≤_};
-ghost use lib.ListN.{length};
-ghost use Rattle.trace.specs.Premises.{HoldsTrace};
+ghost use lib.ListN.{length, take};
 ghost use Rattle.trace.specs.Reading.{traceOf};
+ghost use Rattle.model.specs.Computed.{mustPrecedeIn};
 ghost use Rattle.accept.specs.Acceptance.{AcceptedTrace};
-ghost use Rattle.two_runs.specs.Refusals.{AcceptedUnordered};
-ghost use Rattle.two_runs.specs.Premises.{BothWritten};
+ghost use Rattle.lent.specs.Written.{writtenOver};
+ghost use Rattle.pair_order.specs.Premises.{Readable, Pair};
+ghost use Rattle.two_runs.specs.Premises.{RunFound, BothFound};
 ghost use Rattle.two_runs.specs.Runs.{RunsCall};
 use accept::AcceptAnswer;
-use pair_order::OrderAnswer;
+use reader::ReadAnswer;
 
 // The operation count, which is the length of each run; or the refusal.
 pub enum RunsAnswer {
@@ -16,41 +19,30 @@ pub enum RunsAnswer {
     Refused { number: u8, place: u32 },
 }
 
-// Writes the run with a first to the first buffer, and the run with b first to the second.
-fn write_both(
-    file: &[u8],
-    p: usize,
-    n: usize,
-    a: usize,
-    b: usize,
-    first: &mut [u16],
-    second: &mut [u16],
-)
-    requires { ⌜ AcceptedTrace (now file) (traceOf (now file))
-        × HoldsTrace (now file) p n
-        × (n ≤ length (now first))
-        × (n ≤ length (now second)) ⌝ }
-    ensures { λ r. ⌜ BothWritten (traceOf (now (file .entry))) a b (now (first .entry)) (now (first .exit))
-        (now (second .entry)) (now (second .exit)) ⌝ }
+// Copies the first n numbers of a run to a buffer.
+fn copy_run(run: &[u16; 1024], n: usize, buffer: &mut [u16])
+    requires { ⌜ (n ≤ 1024) × (n ≤ length (now run)) × (n ≤ length (now buffer)) ⌝ }
+    ensures { λ r. ⌜ now (buffer .exit) ≡ writtenOver (take n (now (run .entry))) (now (buffer .entry)) ⌝ }
 {
-    let index = index::index_of(file, n);
-    let order = index.order;
-    let starts = index.starts;
-    run_writer::write_run(file, p, n, &order, &starts, b, &mut first[0..n]);
-    run_writer::write_run(file, p, n, &order, &starts, a, &mut second[0..n]);
+    let mut i: usize = 0;
+    while i < n {
+        buffer[i] = run[i];
+        i += 1;
+    }
 }
 
-// Question 15 of a pair that is not ordered, and the runs.
+// Question 15 of a pair that is not ordered, whose runs are found, and the runs.
 fn runs_if_room(
     file: &[u8],
-    workers: u8,
     operations: u32,
     a: u32,
     b: u32,
+    one: &[u16; 1024],
+    other: &[u16; 1024],
     first: &mut [u16],
     second: &mut [u16],
 ) -> RunsAnswer
-    requires { ⌜ AcceptedUnordered (now file) a b (traceOf (now file)) × HoldsTrace (now file) workers operations ⌝ }
+    requires { ⌜ BothFound (now file) operations a b (now one) (now other) ⌝ }
     ensures { λ r. ⌜ RunsCall (now (file .entry)) a b (now (first .entry)) (now (second .entry)) r
         (now (first .exit)) (now (second .exit)) ⌝ }
 {
@@ -67,48 +59,121 @@ fn runs_if_room(
             place: 0,
         };
     }
-    write_both(
-        file,
-        workers as usize,
-        n,
-        a as usize,
-        b as usize,
-        first,
-        second,
-    );
+    copy_run(one, n, first);
+    copy_run(other, n, second);
     RunsAnswer::Runs {
         operations: operations,
     }
 }
 
-// Questions 12 to 15 of an accepted file, and the runs.
+// Question 14 where b need not precede a: by the walk without a, with the run that holds a back; and the runs.
 fn runs_if_unordered(
     file: &[u8],
     workers: u8,
     operations: u32,
+    order: &[u16; 1024],
+    starts: &[u16; 17],
+    list: &[u32; 1024],
+    ends: &[u16; 16],
+    a: u32,
+    b: u32,
+    one: &[u16; 1024],
+    first: &mut [u16],
+    second: &mut [u16],
+) -> RunsAnswer
+    requires { ⌜ AcceptedTrace (now file) (traceOf (now file))
+        × Readable (now file) workers operations (now order) (now starts) (now list) (now ends)
+        × Pair operations a b
+        × (mustPrecedeIn (traceOf (now file)) b a ≡ false)
+        × RunFound (traceOf (now file)) operations b (now one) ⌝ }
+    ensures { λ r. ⌜ RunsCall (now (file .entry)) a b (now (first .entry)) (now (second .entry)) r
+        (now (first .exit)) (now (second .exit)) ⌝ }
+{
+    let mut other = [0u16; 1024];
+    let rank = pair_order::rank_of(file, operations, order, starts, a as usize);
+    let q = trace::worker_of(file, a as usize) as usize;
+    let end = run_writer::write_run(workers as usize, order, starts, list, ends, q, rank, &mut other);
+    let held = end.held;
+    if pair_order::must_precede(file, operations, order, starts, &held, a as usize, b as usize) {
+        return RunsAnswer::Refused {
+            number: 14,
+            place: 0,
+        };
+    }
+    runs_if_room(file, operations, a, b, one, &other, first, second)
+}
+
+// Questions 10 and 14 of two different operations: one walk, first without b and then with it, answers 10 and the first
+// direction of 14, and what it adds is the run that holds b back. Nothing is written to the buffers yet.
+fn runs_between(
+    file: &[u8],
+    workers: u8,
+    operations: u32,
+    order: &[u16; 1024],
+    starts: &[u16; 17],
+    list: &[u32; 1024],
+    ends: &[u16; 16],
     a: u32,
     b: u32,
     first: &mut [u16],
     second: &mut [u16],
 ) -> RunsAnswer
-    requires { ⌜ AcceptedTrace (now file) (traceOf (now file)) × HoldsTrace (now file) workers operations ⌝ }
+    requires { ⌜ Readable (now file) workers operations (now order) (now starts) (now list) (now ends)
+        × Pair operations a b ⌝ }
     ensures { λ r. ⌜ RunsCall (now (file .entry)) a b (now (first .entry)) (now (second .entry)) r
         (now (first .exit)) (now (second .exit)) ⌝ }
 {
-    match pair_order::order_if_pair(file, workers, operations, a, b) {
-        OrderAnswer::Ordered { sign } => {
-            if sign == 0 {
-                return runs_if_room(file, workers, operations, a, b, first, second);
+    let mut one = [0u16; 1024];
+    let rank = pair_order::rank_of(file, operations, order, starts, b as usize);
+    let q = trace::worker_of(file, b as usize) as usize;
+    let end = run_writer::write_run(workers as usize, order, starts, list, ends, q, rank, &mut one);
+    let held = end.held;
+    let whole = end.whole;
+    match accept::accept_if_done(file, workers, operations, order, starts, &whole) {
+        AcceptAnswer::Accepted {
+            workers: p,
+            operations: n,
+        } => {
+            if pair_order::must_precede(file, n, order, starts, &held, b as usize, a as usize) {
+                return RunsAnswer::Refused {
+                    number: 14,
+                    place: 0,
+                };
             }
-            RunsAnswer::Refused {
-                number: 14,
-                place: 0,
-            }
+            runs_if_unordered(file, p, n, order, starts, list, ends, a, b, &one, first, second)
         }
-        OrderAnswer::Refused { number, place } => RunsAnswer::Refused {
+        AcceptAnswer::Refused { number, place } => RunsAnswer::Refused {
             number: number,
             place: place,
         },
+    }
+}
+
+// Questions 10 and 12 to 15 of a file that reads as a trace, and the runs.
+fn runs_if_pair(
+    file: &[u8],
+    workers: u8,
+    operations: u32,
+    order: &[u16; 1024],
+    starts: &[u16; 17],
+    list: &[u32; 1024],
+    ends: &[u16; 16],
+    a: u32,
+    b: u32,
+    first: &mut [u16],
+    second: &mut [u16],
+) -> RunsAnswer
+    requires { ⌜ Readable (now file) workers operations (now order) (now starts) (now list) (now ends) ⌝ }
+    ensures { λ r. ⌜ RunsCall (now (file .entry)) a b (now (first .entry)) (now (second .entry)) r
+        (now (first .exit)) (now (second .exit)) ⌝ }
+{
+    if pair_order::is_pair(operations, a, b) {
+        return runs_between(file, workers, operations, order, starts, list, ends, a, b, first, second);
+    }
+    let no = pair_order::refuse(file, workers, operations, order, starts, list, ends, a, b);
+    RunsAnswer::Refused {
+        number: no.number,
+        place: no.place,
     }
 }
 
@@ -118,12 +183,16 @@ pub fn two_runs(file: &[u8], a: u32, b: u32, first: &mut [u16], second: &mut [u1
     ensures { λ r. ⌜ RunsCall (now (file .entry)) a b (now (first .entry)) (now (second .entry)) r
         (now (first .exit)) (now (second .exit)) ⌝ }
 {
-    match accept::accept(file) {
-        AcceptAnswer::Accepted {
+    let mut order = [0u16; 1024];
+    let mut starts = [0u16; 17];
+    let mut list = [0u32; 1024];
+    let mut ends = [0u16; 16];
+    match accept::read_index(file, &mut order, &mut starts, &mut list, &mut ends) {
+        ReadAnswer::Read {
             workers,
             operations,
-        } => runs_if_unordered(file, workers, operations, a, b, first, second),
-        AcceptAnswer::Refused { number, place } => RunsAnswer::Refused {
+        } => runs_if_pair(file, workers, operations, &order, &starts, &list, &ends, a, b, first, second),
+        ReadAnswer::Refused { number, place } => RunsAnswer::Refused {
             number: number,
             place: place,
         },

@@ -1,58 +1,96 @@
--- `runs_if_unordered` meets its contract: what the pair order answers, question 14, and the rest where it does not
--- refuse.
--- Assumes nothing.
-use mathlib.Core.Path.{sym, _∙_}
+use Rattle.two_runs.proofs.Found.{readable-runnable, accepted-pair, run-found}
+use Rattle.two_runs.proofs.Answers.{pair-unordered, call-ordered}
+use Rattle.pair_order.proofs.Answers.{readable-operations, readable-left-out, worker-low}
+use Rattle.index.proofs.Lookups.{holds-places}
+use Rattle.trace.specs.Reading.{traceOf}
+use mathlib.Core.Path.{_≡_, refl, sym, _∙_}
+use mathlib.Core.Logic.{inl, inr}
 use borrow.Author.Needs.{needs}
-use Rattle.two_runs.proofs.Answers.{pair-unordered, call-ordered, call-unpaired}
 use Rattle.two_runs.proofs.runs_if_unordered.Statement.{statement}
 use Rattle.two_runs.proofs.runs_if_unordered.Tie as tie
+use Rattle.two_runs.proofs.runs_if_unordered.Reads as reads
+use Rattle.two_runs.proofs.runs_if_unordered.Lts as lts
+use Rattle.pair_order.proofs.must_precede.Reads as must-precede-reads
+use Rattle.pair_order.proofs.rank_of.Reads as rank-of-reads
+use Rattle.run_writer.proofs.write_run.Reads as write-run-reads
+use Rattle.trace.proofs.worker_of.Reads as worker-of-reads
+use Rattle.two_runs.proofs.runs_if_room.Reads as runs-if-room-reads
 
-order-if-pair-requires : tie.Need-order-if-pair-requires
-order-if-pair-requires c κs = c .before .before .before .pre
+-- src/lib.rt:93:9
+rank-of-requires : tie.Need-rank-of-requires
+rank-of-requires c κs = search needs
 
-enum-known-sign : tie.Need-enum-known-sign
-enum-known-sign c = search needs
+-- src/lib.rt:94:13
+worker-of-requires : tie.Need-worker-of-requires
+worker-of-requires c κs = search needs
 
+-- src/lib.rt:94:13
+cast-q : tie.Need-cast-q
+cast-q c = search needs
+
+-- src/lib.rt:95:9
+write-run-requires : tie.Need-write-run-requires
+write-run-requires c κs =
+    let (accepted, x, y, e, f) = c .before .before .before .before .before .before .pre in
+    let own = c .before .worker-of .ensures in
+    let low = worker-low (readable-operations x) (y .first-below) own in
+    (x .holds .most, low .0, readable-runnable x (y .first-below) own (c .before .before .rank-of .ensures), refl)
+
+-- src/lib.rt:97:8
+must-precede-requires : tie.Need-must-precede-requires
+must-precede-requires c κs =
+    let (accepted, x, y, e, f) = c .before .before .before .before .before .before .before .before .before .pre in
+    let t = traceOf (c .before .before .before .before .before .before .before .before .before .args .file .now) in
+    let places = holds-places (x .holds) (x .handed .indexed) in
+    let left = readable-left-out x (y .first-below) (c .before .before .before .before .worker-of .ensures) (c .before .before .before .before .before .rank-of .ensures) in
+    let w = c .before .before .write-run .ensures t _ _ (x .holds .few) places left in
+    (readable-operations x, w .without-b, y .second-below, y .differ)
+
+-- src/lib.rt:98:9
+returns : tie.Need-returns
+returns c =
+    let (accepted, x, y, e, f) = c .before .before .before .before .before .before .before .before .before .before .before .pre in
+    call-ordered _ _ _ _ _ (accepted-pair accepted (x .holds) y) (inl (sym (c .before .must-precede .ensures) ∙ c .if1 .taken))
+
+-- src/lib.rt:103:5
 runs-if-room-requires : tie.Need-runs-if-room-requires
 runs-if-room-requires c κs =
-    let c2 = c .before .before in
-    let c4 = c2 .before .before in
-    let c6 = c4 .before .before in
-    let c10 = c6 .before .before .before .before in
-    (pair-unordered _ _ _ (sym (c6 .order-if-pair .ensures) ∙ c4 .sign .given .1) (c2 .if1 .taken), c10 .pre .1)
+    let (accepted, x, y, e, f) = c .before .before .before .before .before .before .before .before .before .before .before .before .before .before .pre in
+    let t = traceOf (c .before .before .before .before .before .before .before .before .before .before .before .before .before .before .args .file .now) in
+    let places = holds-places (x .holds) (x .handed .indexed) in
+    let left = readable-left-out x (y .first-below) (c .before .before .before .before .before .before .before .before .before .worker-of .ensures) (c .before .before .before .before .before .before .before .before .before .before .rank-of .ensures) in
+    let w = c .before .before .before .before .before .before .before .write-run .ensures t _ _ (x .holds .few) places left in
+    record {
+      unordered = pair-unordered (accepted-pair accepted (x .holds) y) (sym (c .before .before .before .before .must-precede .ensures) ∙ c .before .before .before .if1 .left) e;
+      workers = _;
+      holds = x .holds;
+      b-late = f;
+      a-late = run-found accepted (x .holds) w;
+    }
 
+-- src/lib.rt:70:1
 same-length : tie.Need-same-length
 same-length c = search needs
 
+-- src/lib.rt:70:1
 same-length-2 : tie.Need-same-length-2
 same-length-2 c = search needs
 
-returns : tie.Need-returns
-returns c = c .before .before .before .before .runs-if-room .ensures
-
-enum-known-number : tie.Need-enum-known-number
-enum-known-number c = search needs
-
+-- src/lib.rt:70:1
 returns-2 : tie.Need-returns-2
-returns-2 c =
-    let c2 = c .before .before in
-    let c4 = c2 .before .before in
-    call-ordered _ _ _ _ _ (sym (c4 .order-if-pair .ensures) ∙ c2 .sign .given .1) (c .if1 .left)
-
-returns-3 : tie.Need-returns-3
-returns-3 c =
-    call-unpaired _ _ _ _ _ (sym (c .before .before .before .order-if-pair .ensures) ∙ c .before .number .given .1)
+returns-2 c = search needs
 
 pub runs-if-unordered-spec : {M : Type 1} → statement M
 runs-if-unordered-spec =
     tie.close
     (tie.spec
-    order-if-pair-requires
-    enum-known-sign
+    rank-of-requires
+    worker-of-requires
+    cast-q
+    write-run-requires
+    must-precede-requires
+    returns
     runs-if-room-requires
     same-length
     same-length-2
-    returns
-    enum-known-number
-    returns-2
-    returns-3)
+    returns-2)

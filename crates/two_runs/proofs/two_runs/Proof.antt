@@ -1,46 +1,60 @@
--- `two_runs` meets its contract: what reading the file answers, and questions 12 to 15 where it refuses nothing.
--- Assumes nothing.
+use Rattle.two_runs.proofs.Answers.{call-refused}
+use Rattle.accept.proofs.Accepting.{answer-unread}
+use Rattle.reader.proofs.Answers.{answer-holds, answer-refused}
 use mathlib.Core.Path.{sym, _∙_}
 use borrow.Author.Needs.{needs}
-use Rattle.accept.proofs.Answers.{answer-accepts}
-use Rattle.two_runs.proofs.Answers.{call-refused}
 use Rattle.two_runs.proofs.two_runs.Statement.{statement}
 use Rattle.two_runs.proofs.two_runs.Tie as tie
+use Rattle.two_runs.proofs.two_runs.Reads as reads
+use Rattle.two_runs.proofs.two_runs.Lts as lts
+use Rattle.accept.proofs.read_index.Reads as read-index-reads
+use Rattle.two_runs.proofs.runs_if_pair.Reads as runs-if-pair-reads
 
-accept-requires : tie.Need-accept-requires
-accept-requires c κs = search needs
+-- src/lib.rt:190:11
+read-index-requires : tie.Need-read-index-requires
+read-index-requires c κs = search needs
 
+-- src/lib.rt:192:13
 enum-known-workers : tie.Need-enum-known-workers
 enum-known-workers c = search needs
 
-runs-if-unordered-requires : tie.Need-runs-if-unordered-requires
-runs-if-unordered-requires c κs =
-    let c3 = c .before .before .before in
-    let c5 = c3 .before .before in
-    answer-accepts _ _ _ (sym (c5 .accept .ensures) ∙ c3 .workers .given .1)
+-- src/lib.rt:194:14
+runs-if-pair-requires : tie.Need-runs-if-pair-requires
+runs-if-pair-requires c κs =
+    let (r, x) = c .before .before .before .before .before .before .before .before .before .read-index .ensures in
+    let h = answer-holds _ _ _ (sym r ∙ c .before .before .before .before .before .before .before .workers .given .1) in
+    record { holds = h; handed = x .handed h }
 
+-- src/lib.rt:195:31
 enum-known-number : tie.Need-enum-known-number
 enum-known-number c = search needs
 
+-- src/lib.rt:182:1
 same-length : tie.Need-same-length
 same-length c = search needs
 
+-- src/lib.rt:182:1
 same-length-2 : tie.Need-same-length-2
 same-length-2 c = search needs
 
+-- src/lib.rt:182:1
 returns : tie.Need-returns
-returns c = c .before .before .before .before .runs-if-unordered .ensures
+returns c = search needs
 
+-- src/lib.rt:182:1
 returns-2 : tie.Need-returns-2
-returns-2 c = call-refused _ _ _ _ _ (sym (c .before .before .before .accept .ensures) ∙ c .before .number .given .1)
+returns-2 c =
+    let (r, x) = c .before .before .before .read-index .ensures in
+    let e = sym r ∙ c .before .number .given .1 in
+    call-refused _ _ _ _ _ (sym (answer-unread _ (answer-refused _ _ _ e)))
 
 pub two-runs-spec : {M : Type 1} → statement M
 two-runs-spec =
     tie.close
     (tie.spec
-    accept-requires
+    read-index-requires
     enum-known-workers
-    runs-if-unordered-requires
+    runs-if-pair-requires
     enum-known-number
     same-length
     same-length-2
