@@ -9,10 +9,8 @@ use Prim.Native.Nat.{ℕ, zero, suc, _+_, _-_, _*_, _/_, _%_, _<_, _≤_}
 use lib.ListN.{length, getD, take, drop, length-append, length-drop, List·getD-append}
 use lib.Seq.{take-at, drop-at, getD-take, getD-drop, getD-append-add, length-take-le, ext-getD}
 use Rattle.basics.proofs.Booleans.{equal?, less?}
-use Rattle.trace.specs.Premises.{HoldsTrace}
-use Rattle.trace.specs.Reading.{traceOf}
 use Rattle.trace.specs.Trace.{Trace, size}
-use Rattle.index.specs.Indexed.{Indexed}
+use Rattle.index.specs.Indexed.{Places}
 use Rattle.index.proofs.Lookups.{part-at}
 use Rattle.model.specs.Computed.{row}
 use Rattle.model.proofs.TableRows.{row-length}
@@ -85,16 +83,12 @@ module _ (p k : ℕ) (counts table : List ℕ) (long : length counts ≡ p) (roo
 -- ---- the rows of one operation more
 
 -- an operation stands at its place
-module _ {bytes : List ℕ} {p n : ℕ} {order starts : List ℕ} (h : HoldsTrace bytes p n)
-    (i : Indexed (traceOf bytes) order starts) where
-  abbrev t : Trace
-  t = traceOf bytes
-
+module _ {t : Trace} {n : ℕ} {order starts : List ℕ} (i : Places t n order starts) where
   abbrev w : ℕ
   w = t .workers
 
   place-in : (k : ℕ) → k < size t → (placeOf t starts k < n) × (getD order (placeOf t starts k) 0 ≡ k)
-  place-in k l = part-at h i k (rw (h .count) at l)
+  place-in k l = part-at i k (rw (i .count) at l)
 
   -- row k, which has room, is written, and k stands at the place `at`
   pub rows-more : {at k : ℕ} {old now counts : List ℕ} → RowsTo t starts at old now → k < size t
@@ -153,7 +147,7 @@ module _ {bytes : List ℕ} {p n : ℕ} {order starts : List ℕ} (h : HoldsTrac
 
       filled : (j : ℕ) → j < size t * w → getD now j 0 ≡ getD (writtenOver (orderTable t) old) j 0
       filled j l =
-          let some : 0 < w = h-some in
+          let some : 0 < w = go (less? 0 w) in
           let k = j / w in
           let q = j % w in
           let same : k * w + q ≡ j = div-add-mod' j w in
@@ -163,8 +157,11 @@ module _ {bytes : List ℕ} {p n : ℕ} {order starts : List ℕ} (h : HoldsTrac
           r .rows k q below (omega (arith, e, place-in k below .0)) lower
           ∙ sym (rows-entry t k q (drop (length (orderTable t)) old) below lower))
         where
-          h-some : 0 < w
-          h-some = rw (h .workers) (h .some)
+          go : (0 < w) ⊎ (w ≤ 0) → 0 < w
+          go (inl z) = z
+          go (inr z) =
+              let none : w ≡ 0 = omega arith in
+              absurd (omega (arith, rw none at l))
 
       each : (j : ℕ) → j < length now → getD now j 0 ≡ getD (writtenOver (orderTable t) old) j 0
       each j l = elim (less? j (size t * w)) [

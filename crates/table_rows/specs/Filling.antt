@@ -1,21 +1,26 @@
 -- Filling the table worker by worker: what the inner functions know, and what they do.
 -- Follows: document 01, "Order table and order".
 -- Differs: nowhere. Means: the call's contract speaks of none of these.
+use mathlib.Core.Bool.{cond}
 use mathlib.Core.List.{List, _++_}
 use mathlib.Core.Path.{_≡_}
 use Prim.Native.Nat.{ℕ, _+_, _*_, _<_, _≤_}
-use lib.ListN.{length, getD, take, drop}
+use lib.Dec.{ltb}
+use lib.ListN.{length, getD, set, take, drop}
 use Rattle.runs.specs.Workers.{earlier}
+use Rattle.trace.specs.Premises.{HoldsTrace}
 use Rattle.trace.specs.Reading.{traceOf}
 use Rattle.trace.specs.Trace.{Trace, size, workerOf}
 use Rattle.model.specs.Computed.{row}
-use Rattle.walk.specs.Walks.{Walkable}
+use Rattle.index.specs.Indexed.{Places}
+use Rattle.index.specs.Steps.{operationAt, ahead, Handed}
 use Rattle.accept.specs.Acceptance.{AcceptedTrace}
 
 -- an accepted file with its index, and a table that holds n × p numbers
-pub record Fillable (bytes : List ℕ) (p n : ℕ) (order starts table : List ℕ) : Type 0 where
+pub record Fillable (bytes : List ℕ) (p n : ℕ) (order starts list ends table : List ℕ) : Type 0 where
   pub accepted : AcceptedTrace bytes (traceOf bytes)
-  pub walkable : Walkable bytes p n order starts
+  pub holds : HoldsTrace bytes p n
+  pub handed : Handed (traceOf bytes) order starts list ends
   pub room : n * p ≤ length table
 
 -- the counts and the table have room for the p numbers of row k
@@ -45,3 +50,30 @@ pub record RowsTo (t : Trace) (starts : List ℕ) (at : ℕ) (old now : List ℕ
 abbrev pub FillsPart : Trace → List ℕ → ℕ → List ℕ → List ℕ → Type 0
 FillsPart t starts q before now =
     (old : List ℕ) → RowsTo t starts (getD starts q 0) old before → RowsTo t starts (getD starts (q + 1) 0) old now
+
+-- ---- a stretch of one worker's rows, which differ in its own count alone
+
+-- there is room for the rows of the operations in worker q's part of the order, those behind i others and fewer than j
+pub record RoomAlong (p q i j : ℕ) (order starts counts table : List ℕ) : Type 0 where
+  pub up : i ≤ j
+  pub own : q < 16
+  pub counters : length counts ≡ 16
+  pub places : getD starts q 0 + j ≤ 1024
+  pub each : (m : ℕ) → i ≤ m → m < j → RoomAt p (getD order (getD starts q 0 + m) 0) counts table
+
+-- these counts, with m operations of worker q, are the row of its operation with m earlier ones, from i up to j
+pub record RowsOf (t : Trace) (q i j : ℕ) (counts : List ℕ) : Type 0 where
+  pub inside : (m : ℕ) → i ≤ m → m < j → operationAt t q m < size t
+  pub each : (m : ℕ) → i ≤ m → m < j → take (t .workers) (set counts q m) ≡ row t (operationAt t q m)
+
+-- where they are, these rows are filled too; of the counts, none but worker q's is another
+pub record RowsAlong (order starts : List ℕ) (p q i j : ℕ) (counts before counts′ now : List ℕ) : Type 0 where
+  pub same-length : length now ≡ length before
+  pub others : counts′ ≡ set counts q (getD counts′ q 0)
+  pub rows : (t : Trace) (n : ℕ) → Places t n order starts → t .workers ≡ p → q < p → RowsOf t q i j counts
+      → (old : List ℕ) → RowsTo t starts (getD starts q 0 + i) old before
+      → RowsTo t starts (getD starts q 0 + j) old now
+
+-- behind the step of entry `own`; where the list has ended, behind the last operation
+abbrev pub stretchEnd : List ℕ → ℕ → ℕ → ℕ → ℕ
+stretchEnd list end last own = cond (ltb own end) (ahead (getD list own 0) + 1) last

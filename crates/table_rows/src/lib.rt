@@ -1,15 +1,15 @@
 // Writing the rows of the order table of an accepted file.
+ghost use mathlib.Core.Bool.{cond};
 ghost use mathlib.Core.Path.{_≡_};
-ghost use Prim.Native.Nat.{_*_, _<_, _≤_};
-ghost use lib.ListN.{length, take};
+ghost use Prim.Native.Nat.{_+_, _*_, _<_, _≤_};
+ghost use lib.Dec.{ltb};
+ghost use lib.ListN.{length, getD, take};
 ghost use Rattle.trace.specs.Premises.{HoldsTrace};
 ghost use Rattle.trace.specs.Reading.{traceOf};
-ghost use Rattle.walk.specs.Turns.{Noted};
-ghost use Rattle.walk.specs.Walks.{Walkable, stateOf};
-ghost use Rattle.simulation.specs.Shows.{Exhausted, Kept};
+ghost use Rattle.index.specs.Steps.{ahead, Handed};
 ghost use Rattle.accept.specs.Acceptance.{AcceptedTrace};
 ghost use Rattle.lent.specs.Written.{writtenOver};
-ghost use Rattle.table_rows.specs.Filling.{RoomAt, Fillable, rowPut, FillsPart};
+ghost use Rattle.table_rows.specs.Filling.{RoomAt, RoomAlong, Fillable, rowPut, RowsAlong, FillsPart, stretchEnd};
 ghost use Rattle.table_rows.specs.Rows.{orderTable};
 
 // Writes a row: the done counts of as many workers as it has numbers.
@@ -34,87 +34,105 @@ fn put_row(done: &[u16; 16], p: usize, k: usize, table: &mut [u16])
     write_row(done, &mut table[first..end]);
 }
 
-// Goes on with the walk without operation k to its end. Where no worker was freed, it is there already.
-fn exhaust(
-    file: &[u8],
+// Writes the rows of worker q's operations with at least `from` earlier ones and fewer than `to`: the same done counts,
+// but for its own.
+fn put_rows(
     p: usize,
-    n: usize,
     order: &[u16; 1024],
     starts: &[u16; 17],
-    k: usize,
-    freed: bool,
-    notes: &mut [u16; 16],
+    q: usize,
+    from: usize,
+    to: usize,
     done: &mut [u16; 16],
-    events: &mut [u64; 4],
+    table: &mut [u16],
 )
-    requires { ⌜ Walkable (now file) p n (now order) (now starts)
-        × Kept (traceOf (now file)) k (stateOf (now done) (now events)) freed
-        × Noted (traceOf (now file)) k (stateOf (now done) (now events)) (now notes) ⌝ }
-    ensures { λ r. ⌜ Exhausted (traceOf (now (file .entry))) k (stateOf (now (done .exit)) (now (events .exit)))
-        × Noted (traceOf (now (file .entry))) k (stateOf (now (done .exit)) (now (events .exit)))
-        (now (notes .exit)) ⌝ }
+    requires { ⌜ RoomAlong p q from to (now order) (now starts) (now done) (now table) ⌝ }
+    ensures { λ r. ⌜ RowsAlong (now (order .entry)) (now (starts .entry)) p q from to
+        (now (done .entry)) (now (table .entry)) (now (done .exit)) (now (table .exit)) ⌝ }
 {
-    if freed {
-        walk::walk_on(file, p, n, order, starts, k, notes, done, events);
+    let first = basics::index(starts[q]);
+    let mut m = from;
+    while m < to {
+        done[q] = m as u16;
+        put_row(done, p, basics::index(order[first + m]), table);
+        m += 1;
     }
 }
 
-// Writes the rows of worker q's operations. The walk without one of them is kept: with that operation added, the walk
-// without the next one goes on from there.
+// Up to where the rows of a worker's operations differ in its own count alone: with the step of entry `own` of its list;
+// where the list has ended, with the last of its operations.
+fn stretch_end(list: &[u32; 1024], own: usize, end: usize, last: usize) -> usize
+    requires { ⌜ «end» ≤ 1024 ⌝ }
+    ensures { λ r. ⌜ r ≡ stretchEnd (now (list .entry)) «end» last own ⌝ }
+{
+    if own < end {
+        return basics::wide_index(list[own]) / 65536 + 1;
+    }
+    last
+}
+
+// Writes the rows of worker q's operations. The walk without one of them is kept: behind a step of the worker, which may
+// free others, the walk without the next operation goes on from there.
 fn fill_worker(
     file: &[u8],
     p: usize,
     n: usize,
     order: &[u16; 1024],
     starts: &[u16; 17],
+    list: &[u32; 1024],
+    ends: &[u16; 16],
     q: usize,
     table: &mut [u16],
 )
-    requires { ⌜ Fillable (now file) p n (now order) (now starts) (now table) × (q < p) ⌝ }
+    requires { ⌜ Fillable (now file) p n (now order) (now starts) (now list) (now ends) (now table) × (q < p) ⌝ }
     ensures { λ r. ⌜ FillsPart (traceOf (now (file .entry))) (now (starts .entry)) q (now (table .entry))
         (now (table .exit)) ⌝ }
 {
-    let start = walk::start_walk();
-    let mut done = start.done;
-    let mut events = start.events;
-    let mut notes = [0u16; 16];
-    let mut freed = true;
-    let mut at = basics::index(starts[q]);
-    let end = basics::index(starts[q + 1]);
-    while at < end {
-        let k = basics::index(order[at]);
-        exhaust(
-            file,
-            p,
-            n,
-            order,
-            starts,
-            k,
-            freed,
-            &mut notes,
-            &mut done,
-            &mut events,
-        );
-        put_row(&done, p, k, table);
-        freed = walk::add(file, k, &mut done, &mut events);
-        notes[q] = 0;
-        at += 1;
+    let mut nexts = [0u16; 16];
+    let mut lasts = [0u16; 16];
+    let mut done = [0u16; 16];
+    let mut events = [0u64; 4];
+    let mut waiting = [0u16; 256];
+    courses::begin(starts, &mut nexts, &mut lasts);
+    let mut ready = masks::without(masks::below(p as u32), q as u32);
+    let mut own = basics::index(starts[q]);
+    let end = basics::index(ends[q]);
+    let last = basics::index(lasts[q]);
+    let mut from: usize = 0;
+    while from < last {
+        walk::walk_on(list, ends, &lasts, ready, &mut nexts, &mut done, &mut events, &mut waiting);
+        let to = stretch_end(list, own, end, last);
+        put_rows(p, order, starts, q, from, to, &mut done, table);
+        if last <= to {
+            return;
+        }
+        ready = walk::release(list[own] % 256, &mut events, &mut waiting);
+        done[q] = to as u16;
+        own += 1;
+        from = to;
     }
 }
 
 // Writes all rows, worker by worker.
-pub fn fill(file: &[u8], p: usize, n: usize, table: &mut [u16])
+pub fn fill(
+    file: &[u8],
+    p: usize,
+    n: usize,
+    order: &[u16; 1024],
+    starts: &[u16; 17],
+    list: &[u32; 1024],
+    ends: &[u16; 16],
+    table: &mut [u16],
+)
     requires { ⌜ AcceptedTrace (now file) (traceOf (now file))
         × HoldsTrace (now file) p n
+        × Handed (traceOf (now file)) (now order) (now starts) (now list) (now ends)
         × (n * p ≤ length (now table)) ⌝ }
     ensures { λ r. ⌜ now (table .exit) ≡ writtenOver (orderTable (traceOf (now (file .entry)))) (now (table .entry)) ⌝ }
 {
-    let index = index::index_of(file, n);
-    let order = index.order;
-    let starts = index.starts;
     let mut q: usize = 0;
     while q < p {
-        fill_worker(file, p, n, &order, &starts, q, table);
+        fill_worker(file, p, n, order, starts, list, ends, q, table);
         q += 1;
     }
 }

@@ -32,7 +32,7 @@ fn is_held(x: u32, events: &[u64; 4]) -> bool
 }
 
 // Posts event e. Answers who waited for it; nobody does then.
-fn release(e: u32, events: &mut [u64; 4], waiting: &mut [u16; 256]) -> u16
+pub fn release(e: u32, events: &mut [u64; 4], waiting: &mut [u16; 256]) -> u16
     requires { ⌜ e < 256 ⌝ }
     ensures { λ r. ⌜ (r ≡ getD (now (waiting .entry)) e 0)
         × (now (events .exit) ≡ withPost (now (events .entry)) e)

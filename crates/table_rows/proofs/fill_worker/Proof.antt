@@ -1,163 +1,209 @@
--- `fill_worker` meets its contract. The invariant: the rows before place `at` are written, and the walk is kept for the
--- operation there. Assumes nothing.
-use native.Mathlib.Omega.{arith}
-use Prim.Native.Nat.{_-_}
 use borrow.Author.Needs.{needs}
+use lib.ListN.{length, getD, set}
+use mathlib.Core.Path.{_≡_, refl, _∙_}
+use Prim.Native.Nat.{_+_, _-_, _<_, _≤_}
+use native.Mathlib.Omega.{arith}
+use Rattle.index.proofs.Lookups.{holds-places, part-ordered}
 use Rattle.trace.specs.Reading.{traceOf}
-use Rattle.walk.specs.Walks.{stateOf}
-use Rattle.table_rows.proofs.Keeping.{KeptTo, place-few, row-room, add-asks, kept-more, kept-start, kept-end}
+use Rattle.table_rows.proofs.Keeping.{KeptAt, to-upto, to-own, room-along, kept-next, kept-last, kept-start, kept-end}
 use Rattle.table_rows.proofs.fill_worker.Statement.{statement}
 use Rattle.table_rows.proofs.fill_worker.Tie as tie
+use Rattle.table_rows.proofs.fill_worker.Reads as reads
+use Rattle.table_rows.proofs.fill_worker.Lts as lts
+use Rattle.basics.proofs.index.Reads as index-reads
+use Rattle.courses.proofs.begin.Reads as begin-reads
+use Rattle.masks.proofs.below.Reads as below-reads
+use Rattle.masks.proofs.without.Reads as without-reads
+use Rattle.table_rows.proofs.put_rows.Reads as put-rows-reads
+use Rattle.table_rows.proofs.stretch_end.Reads as stretch-end-reads
+use Rattle.walk.proofs.release.Reads as release-reads
+use Rattle.walk.proofs.walk_on.Reads as walk-on-reads
 
 abbrev Inv-loop : tie.InvT-loop
-Inv-loop file p n order starts q table₀ done₀ events₀ notes₀ freed₀ at₀ end table done events notes freed at =
-    KeptTo (traceOf file) order starts q at (stateOf done events) notes freed table₀ table
+Inv-loop file p n order starts list ends q table₀ nexts₀ lasts done₀ events₀ waiting₀ ready₀ own₀ end last from₀ table nexts done events waiting ready own from =
+    KeptAt (traceOf file) starts list ends lasts q from own nexts done events waiting ready table₀ table
 
 abbrev μ-loop : tie.MeasureT-loop
-μ-loop file p n order starts q table₀ done₀ events₀ notes₀ freed₀ at₀ end table done events notes freed at = end - at
+μ-loop file p n order starts list ends q table₀ nexts₀ lasts done₀ events₀ waiting₀ ready₀ own₀ end last from₀ table nexts done events waiting ready own from = last - from
 
-start-walk-requires : tie.Need-start-walk-requires Inv-loop μ-loop
-start-walk-requires c κs = search needs
+-- src/lib.rt:96:5
+begin-requires : tie.Need-begin-requires Inv-loop μ-loop
+begin-requires c κs =
+    let (x, hq) = c .before .before .before .before .pre in
+    (part-ordered (holds-places (x .holds) (x .handed .indexed)), refl, refl)
 
+-- src/lib.rt:97:49
+cast-below : tie.Need-cast-below Inv-loop μ-loop
+cast-below c =
+    let (x, hq) = c .before .before .before .before .before .pre in
+    let few = x .holds .most in
+    search needs
+
+-- src/lib.rt:97:36
+below-requires : tie.Need-below-requires Inv-loop μ-loop
+below-requires c κs =
+    let (x, hq) = c .before .before .before .before .before .pre in
+    x .holds .most
+
+-- src/lib.rt:97:60
+cast-without : tie.Need-cast-without Inv-loop μ-loop
+cast-without c =
+    let (x, hq) = c .before .before .before .before .before .before .pre in
+    let few = x .holds .most in
+    search needs
+
+-- src/lib.rt:97:9
+without-requires : tie.Need-without-requires Inv-loop μ-loop
+without-requires c κs =
+    let (x, hq) = c .before .before .before .before .before .before .pre in
+    (omega (arith, hq, x .holds .most), c .below .ensures .all _ hq)
+
+-- src/lib.rt:98:33
 mul-index : tie.Need-mul-index Inv-loop μ-loop
 mul-index c = search needs
 
+-- src/lib.rt:98:33
 element-copy-out-index : tie.Need-element-copy-out-index Inv-loop μ-loop
-element-copy-out-index c =
-    let (x, hq) = c .before .before .before .before .before .pre in
-    omega (arith, hq, x .walkable .holds .most)
+element-copy-out-index c = search needs
 
+-- src/lib.rt:98:9
 index-requires : tie.Need-index-requires Inv-loop μ-loop
 index-requires c κs = search needs
 
-add-index : tie.Need-add-index Inv-loop μ-loop
-add-index c = search needs
-
+-- src/lib.rt:99:29
 mul-index-2 : tie.Need-mul-index-2 Inv-loop μ-loop
 mul-index-2 c = search needs
 
+-- src/lib.rt:99:29
 element-copy-out-index-2 : tie.Need-element-copy-out-index-2 Inv-loop μ-loop
-element-copy-out-index-2 c =
-    let (x, hq) = c .before .before .before .before .before .before .before .pre in
-    omega (arith, hq, x .walkable .holds .most)
+element-copy-out-index-2 c = search needs
 
+-- src/lib.rt:99:9
 index-requires-2 : tie.Need-index-requires-2 Inv-loop μ-loop
 index-requires-2 c κs = search needs
 
-loop-holds : tie.Need-loop-holds Inv-loop μ-loop
-loop-holds c =
-    let c6 = c .before .before .before .before .before .before in
-    let (x, hq) = c6 .before .before .before .pre in
-    rw (c .before .before .index .ensures .0) (kept-start x hq (c6 .start-walk .ensures))
-
+-- src/lib.rt:100:30
 mul-index-3 : tie.Need-mul-index-3 Inv-loop μ-loop
-mul-index-3 c =
-    let c1 = c .before in
-    let (x, hq) = c1 .before .before .before .before .before .before .before .before .before .before .pre in
-    let upper = rw (c1 .before .index2 .ensures .0) at (c .loop-test .taken) in
-    let few = place-few x hq (c1 .loop .inv .lower) upper in
-    record { fits = omega (arith, few) }
+mul-index-3 c = search needs
 
-element-copy-out-index-3 : tie.Need-element-copy-out-index-3 Inv-loop μ-loop
-element-copy-out-index-3 c =
-    let c1 = c .before in
-    let (x, hq) = c1 .before .before .before .before .before .before .before .before .before .before .pre in
-    let upper = rw (c1 .before .index2 .ensures .0) at (c .loop-test .taken) in
-    place-few x hq (c1 .loop .inv .lower) upper
+-- src/lib.rt:100:30
+array-read-index : tie.Need-array-read-index Inv-loop μ-loop
+array-read-index c = search needs
 
+-- src/lib.rt:100:9
 index-requires-3 : tie.Need-index-requires-3 Inv-loop μ-loop
 index-requires-3 c κs = search needs
 
-exhaust-requires : tie.Need-exhaust-requires Inv-loop μ-loop
-exhaust-requires c κs =
-    let c0 = c .before .before .before in
-    let c3 = c0 .before .before .before in
-    let s = c3 .before .before .before .before .before .before .before .before .before .before in
-    let (x, hq) = s .pre in
-    let lower = c3 .loop .inv .lower in
-    let upper = rw (c3 .before .index2 .ensures .0) at (c0 .before .before .loop-test .taken) in
-    let k = c0 .index3 .ensures .0 in
-    (x .walkable, rw k (c3 .loop .inv .kept upper), rw k (c3 .loop .inv .noted upper))
+-- src/lib.rt:102:5
+loop-holds : tie.Need-loop-holds Inv-loop μ-loop
+loop-holds c =
+    let (x, hq) = c .before .before .before .before .before .before .before .before .before .before .before .before .pre in
+    rw (c .before .before .before .index .ensures .0) (kept-start x hq (c .before .before .before .before .before .before .before .begin .ensures) (c .before .before .before .before .before .before .below .ensures) (c .before .before .before .before .before .without .ensures))
 
-put-row-requires : tie.Need-put-row-requires Inv-loop μ-loop
-put-row-requires c κs =
-    let c0 = c .before .before .before .before .before .before in
-    let c3 = c0 .before .before .before in
-    let s = c3 .before .before .before .before .before .before .before .before .before .before in
-    let (x, hq) = s .pre in
-    let lower = c3 .loop .inv .lower in
-    let upper = rw (c3 .before .index2 .ensures .0) at (c0 .before .before .loop-test .taken) in
-    let e = rw (c0 .index3 .ensures .0) at (c .before .before .exhaust .ensures .0) in
-    rw (c0 .index3 .ensures .0) (row-room x hq lower upper e (c3 .loop .inv .same-length))
+-- src/lib.rt:103:9
+walk-on-requires : tie.Need-walk-on-requires Inv-loop μ-loop
+walk-on-requires c κs = c .before .before .before .before .before .before .loop .inv .sized
 
-add-requires : tie.Need-add-requires Inv-loop μ-loop
-add-requires c κs =
-    let c0 = c .before .before .before .before .before .before .before .before .before .before .before in
-    let c3 = c0 .before .before .before in
-    let s = c3 .before .before .before .before .before .before .before .before .before .before in
-    let (x, hq) = s .pre in
-    let lower = c3 .loop .inv .lower in
-    let upper = rw (c3 .before .index2 .ensures .0) at (c0 .before .before .loop-test .taken) in
-    let c7 = c .before .before .before .before .before .before .before in
-    let e = rw (c0 .index3 .ensures .0) at (c7 .exhaust .ensures .0) in
-    rw (c0 .index3 .ensures .0) (add-asks x hq lower upper e)
+-- src/lib.rt:104:13
+stretch-end-requires : tie.Need-stretch-end-requires Inv-loop μ-loop
+stretch-end-requires c κs =
+    let (x, hq) = c .before .before .before .before .before .before .before .before .before .before .before .before .before .before .before .before .before .before .before .before .pre in
+    let few = x .handed .listed .few (c .before .before .before .before .before .before .before .before .before .before .before .before .before .before .before .before .before .before .before .before .args .q) (omega (arith, hq, x .holds .most)) in
+    omega (arith, c .before .before .before .before .before .before .before .before .before .index2 .ensures .0, few)
 
-mul-notes : tie.Need-mul-notes Inv-loop μ-loop
-mul-notes c =
-    let c0 = c .before .before .before .before .before .before .before .before .before .before .before .before in
-    let c3 = c0 .before .before .before in
-    let s = c3 .before .before .before .before .before .before .before .before .before .before in
-    let (x, hq) = s .pre in
-    let lower = c3 .loop .inv .lower in
-    let upper = rw (c3 .before .index2 .ensures .0) at (c0 .before .before .loop-test .taken) in
-    record { fits = omega (arith, hq, x .walkable .holds .most) }
+-- src/lib.rt:105:9
+put-rows-requires : tie.Need-put-rows-requires Inv-loop μ-loop
+put-rows-requires c κs =
+    let (x, hq) = c .before .before .before .before .before .before .before .before .before .before .before .before .before .before .before .before .before .before .before .before .before .before .before .pre in
+    let begun = c .before .before .before .before .before .before .before .before .before .before .before .before .before .before .before .before .before .before .begin .ensures in
+    let l = rw (c .before .before .before .before .before .before .before .before .before .before .before .index3 .ensures .0) at (c .before .before .before .before .before .before .before .before .before .loop-test .taken) in
+    let to = rw (c .before .before .before .before .before .before .before .before .before .before .before .before .index2 .ensures .0, c .before .before .before .before .before .before .before .before .before .before .before .index3 .ensures .0) at (c .before .before .stretch-end .ensures) in
+    rw to (room-along x hq begun (c .before .before .before .before .before .before .before .before .before .before .loop .inv) l (c .before .before .before .walk-on .ensures))
 
-array-write-notes : tie.Need-array-write-notes Inv-loop μ-loop
-array-write-notes c =
-    let c0 = c .before .before .before .before .before .before .before .before .before .before .before .before in
-    let c3 = c0 .before .before .before in
-    let s = c3 .before .before .before .before .before .before .before .before .before .before in
-    let (x, hq) = s .pre in
-    let lower = c3 .loop .inv .lower in
-    let upper = rw (c3 .before .index2 .ensures .0) at (c0 .before .before .loop-test .taken) in
-    omega (arith, hq, x .walkable .holds .most)
-
-add-at : tie.Need-add-at Inv-loop μ-loop
-add-at c =
-    let c0 = c .before .before .before .before .before .before .before .before .before .before .before .before in
-    let c3 = c0 .before .before .before in
-    let s = c3 .before .before .before .before .before .before .before .before .before .before in
-    let (x, hq) = s .pre in
-    let lower = c3 .loop .inv .lower in
-    let upper = rw (c3 .before .index2 .ensures .0) at (c0 .before .before .loop-test .taken) in
-    let few = place-few x hq lower upper in
-    search needs
-
-loop-less : tie.Need-loop-less Inv-loop μ-loop
-loop-less c = search needs
-
-loop-again : tie.Need-loop-again Inv-loop μ-loop
-loop-again c =
-    let c0 = c .before .before .before .before .before .before .before .before .before .before .before .before in
-    let c3 = c0 .before .before .before in
-    let s = c3 .before .before .before .before .before .before .before .before .before .before in
-    let (x, hq) = s .pre in
-    let lower = c3 .loop .inv .lower in
-    let upper = rw (c3 .before .index2 .ensures .0) at (c0 .before .before .loop-test .taken) in
-    let c8 = c .before .before .before .before .before .before .before .before in
-    let (e, noted) = rw (c0 .index3 .ensures .0) at (c8 .exhaust .ensures) in
-    let (state, post) = rw (c0 .index3 .ensures .0) at (c .add .ensures) in
-    let row = rw (c0 .index3 .ensures .0) at (c .before .before .before .before .before .put-row .ensures) in
-    kept-more x hq lower upper (c3 .loop .inv) e noted state post row
-
+-- src/lib.rt:107:13
 same-length : tie.Need-same-length Inv-loop μ-loop
-same-length c = c .before .loop .inv .same-length
+same-length c =
+    c .before .before .before .put-rows .ensures .same-length ∙ c .before .before .before .before .before .before .before .before .before .before .before .before .before .before .loop .inv .same-length
 
+-- src/lib.rt:107:13
 returns : tie.Need-returns Inv-loop μ-loop
 returns c =
-    let c1 = c .before in
-    let (x, hq) = c1 .before .before .before .before .before .before .before .before .before .before .pre in
-    kept-end x hq (c1 .loop .inv) (omega (arith, c .loop-test .left, c1 .before .index2 .ensures .0))
+    let (x, hq) = c .before .before .before .before .before .before .before .before .before .before .before .before .before .before .before .before .before .before .before .before .before .before .before .before .before .before .before .pre in
+    let begun = c .before .before .before .before .before .before .before .before .before .before .before .before .before .before .before .before .before .before .before .before .before .before .begin .ensures in
+    let l = rw (c .before .before .before .before .before .before .before .before .before .before .before .before .before .before .before .index3 .ensures .0) at (c .before .before .before .before .before .before .before .before .before .before .before .before .before .loop-test .taken) in
+    let to = rw (c .before .before .before .before .before .before .before .before .before .before .before .before .before .before .before .before .index2 .ensures .0, c .before .before .before .before .before .before .before .before .before .before .before .before .before .before .before .index3 .ensures .0) at (c .before .before .before .before .before .before .stretch-end .ensures) in
+    let rows = rw to at (c .before .before .before .put-rows .ensures) in
+    let all = rw (to, c .before .before .before .before .before .before .before .before .before .before .before .before .before .before .before .index3 .ensures .0) at (c .if1 .taken) in
+    kept-last x hq begun (c .before .before .before .before .before .before .before .before .before .before .before .before .before .before .loop .inv) l (c .before .before .before .before .before .before .before .walk-on .ensures) rows all
+
+-- src/lib.rt:109:31
+mul-release : tie.Need-mul-release Inv-loop μ-loop
+mul-release c = search needs
+
+-- src/lib.rt:109:31
+element-copy-out-release : tie.Need-element-copy-out-release Inv-loop μ-loop
+element-copy-out-release c =
+    let (x, hq) = c .before .before .before .before .before .before .before .before .before .before .before .before .before .before .before .before .before .before .before .before .before .before .before .before .before .before .before .pre in
+    let l = rw (c .before .before .before .before .before .before .before .before .before .before .before .before .before .before .before .index3 .ensures .0) at (c .before .before .before .before .before .before .before .before .before .before .before .before .before .loop-test .taken) in
+    let to = rw (c .before .before .before .before .before .before .before .before .before .before .before .before .before .before .before .before .index2 .ensures .0, c .before .before .before .before .before .before .before .before .before .before .before .before .before .before .before .index3 .ensures .0) at (c .before .before .before .before .before .before .stretch-end .ensures) in
+    let left = rw (to, c .before .before .before .before .before .before .before .before .before .before .before .before .before .before .before .index3 .ensures .0) at (c .if1 .left) in
+    let before = to-own x hq (c .before .before .before .before .before .before .before .before .before .before .before .before .before .before .before .before .before .before .before .before .before .before .begin .ensures) (c .before .before .before .before .before .before .before .before .before .before .before .before .before .before .loop .inv) l left in
+    omega (arith, before, x .handed .listed .few (c .before .before .before .before .before .before .before .before .before .before .before .before .before .before .before .before .before .before .before .before .before .before .before .before .before .before .before .args .q) (omega (arith, hq, x .holds .most)))
+
+-- src/lib.rt:109:9
+release-requires : tie.Need-release-requires Inv-loop μ-loop
+release-requires c κs = search needs
+
+-- src/lib.rt:110:19
+cast-done : tie.Need-cast-done Inv-loop μ-loop
+cast-done c = search needs
+
+-- src/lib.rt:110:9
+mul-done : tie.Need-mul-done Inv-loop μ-loop
+mul-done c =
+    let (x, hq) = c .before .before .before .before .before .before .before .before .before .before .before .before .before .before .before .before .before .before .before .before .before .before .before .before .before .before .before .before .before .before .before .pre in
+    record { fits = omega (arith, hq, x .holds .most) }
+
+-- src/lib.rt:110:9
+array-write-done : tie.Need-array-write-done Inv-loop μ-loop
+array-write-done c =
+    let (x, hq) = c .before .before .before .before .before .before .before .before .before .before .before .before .before .before .before .before .before .before .before .before .before .before .before .before .before .before .before .before .before .before .before .pre in
+    omega (arith, hq, x .holds .most)
+
+-- src/lib.rt:111:9
+add-own : tie.Need-add-own Inv-loop μ-loop
+add-own c = search needs
+
+-- src/lib.rt:102:5
+loop-less : tie.Need-loop-less Inv-loop μ-loop
+loop-less c =
+    let (x, hq) = c .before .before .before .before .before .before .before .before .before .before .before .before .before .before .before .before .before .before .before .before .before .before .before .before .before .before .before .before .before .before .before .pre in
+    let l = rw (c .before .before .before .before .before .before .before .before .before .before .before .before .before .before .before .before .before .before .before .index3 .ensures .0) at (c .before .before .before .before .before .before .before .before .before .before .before .before .before .before .before .before .before .loop-test .taken) in
+    let to = rw (c .before .before .before .before .before .before .before .before .before .before .before .before .before .before .before .before .before .before .before .before .index2 .ensures .0, c .before .before .before .before .before .before .before .before .before .before .before .before .before .before .before .before .before .before .before .index3 .ensures .0) at (c .before .before .before .before .before .before .before .before .before .before .stretch-end .ensures) in
+    let more = to-upto x hq (c .before .before .before .before .before .before .before .before .before .before .before .before .before .before .before .before .before .before .before .before .before .before .before .before .before .before .begin .ensures) (c .before .before .before .before .before .before .before .before .before .before .before .before .before .before .before .before .before .before .loop .inv) l .0 in
+    omega (arith, to, more, c .before .before .before .before .before .before .before .before .before .before .before .before .before .before .before .before .before .loop-test .taken)
+
+-- src/lib.rt:102:5
+loop-again : tie.Need-loop-again Inv-loop μ-loop
+loop-again c =
+    let (x, hq) = c .before .before .before .before .before .before .before .before .before .before .before .before .before .before .before .before .before .before .before .before .before .before .before .before .before .before .before .before .before .before .before .pre in
+    let begun = c .before .before .before .before .before .before .before .before .before .before .before .before .before .before .before .before .before .before .before .before .before .before .before .before .before .before .begin .ensures in
+    let l = rw (c .before .before .before .before .before .before .before .before .before .before .before .before .before .before .before .before .before .before .before .index3 .ensures .0) at (c .before .before .before .before .before .before .before .before .before .before .before .before .before .before .before .before .before .loop-test .taken) in
+    let to = rw (c .before .before .before .before .before .before .before .before .before .before .before .before .before .before .before .before .before .before .before .before .index2 .ensures .0, c .before .before .before .before .before .before .before .before .before .before .before .before .before .before .before .before .before .before .before .index3 .ensures .0) at (c .before .before .before .before .before .before .before .before .before .before .stretch-end .ensures) in
+    let rows = rw to at (c .before .before .before .before .before .before .before .put-rows .ensures) in
+    let left = rw (to, c .before .before .before .before .before .before .before .before .before .before .before .before .before .before .before .before .before .before .before .index3 .ensures .0) at (c .before .before .before .before .if1 .left) in
+    let (freed, posted, cleared) = c .release .ensures in
+    rw (freed, posted, cleared, to) (kept-next x hq begun (c .before .before .before .before .before .before .before .before .before .before .before .before .before .before .before .before .before .before .loop .inv) l (c .before .before .before .before .before .before .before .before .before .before .before .walk-on .ensures) rows left)
+
+-- src/lib.rt:76:1
+same-length-2 : tie.Need-same-length-2 Inv-loop μ-loop
+same-length-2 c = c .before .loop .inv .same-length
+
+-- src/lib.rt:76:1
+returns-2 : tie.Need-returns-2 Inv-loop μ-loop
+returns-2 c =
+    let (x, hq) = c .before .before .before .before .before .before .before .before .before .before .before .before .before .before .pre in
+    kept-end x hq (c .before .before .before .before .before .before .before .before .before .begin .ensures) (c .before .loop .inv) (rw (c .before .before .index3 .ensures .0) at (c .loop-test .left))
 
 pub fill-worker-spec : {M : Type 1} → statement M
 fill-worker-spec =
@@ -165,25 +211,34 @@ fill-worker-spec =
     (tie.spec
     Inv-loop
     μ-loop
-    start-walk-requires
+    begin-requires
+    cast-below
+    below-requires
+    cast-without
+    without-requires
     mul-index
     element-copy-out-index
     index-requires
-    add-index
     mul-index-2
     element-copy-out-index-2
     index-requires-2
-    loop-holds
     mul-index-3
-    element-copy-out-index-3
+    array-read-index
     index-requires-3
-    exhaust-requires
-    put-row-requires
-    add-requires
-    mul-notes
-    array-write-notes
-    add-at
+    loop-holds
+    walk-on-requires
+    stretch-end-requires
+    put-rows-requires
+    same-length
+    returns
+    mul-release
+    element-copy-out-release
+    release-requires
+    cast-done
+    mul-done
+    array-write-done
+    add-own
     loop-less
     loop-again
-    same-length
-    returns)
+    same-length-2
+    returns-2)
