@@ -55,7 +55,16 @@ pub fn order_table(file: &[u8], table: &mut [u16]) -> TableAnswer
         AcceptAnswer::Accepted {
             workers,
             operations,
-        } => fill_if_room(file, workers, operations, &order, &starts, &list, &ends, table),
+        } => fill_if_room(
+            file,
+            workers,
+            operations,
+            &order,
+            &starts,
+            &list,
+            &ends,
+            table,
+        ),
         AcceptAnswer::Refused { number, place } => TableAnswer::Refused {
             number: number,
             place: place,

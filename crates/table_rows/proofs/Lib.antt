@@ -1,6 +1,7 @@
--- Rows: a row and the whole table, as the code writes them. Stretch: the rows of a stretch, one by one. Own: a walk kept
--- along one worker. Keeping: the rows of one worker.
+-- Rows: a row and the whole table, as the code writes them. Stretch: the rows of a stretch, one by one. Own: a walk
+-- kept along one worker. Keeping: the rows of one worker. Filling: where such a walk starts, and worker after worker.
 pub mod Rows
 pub mod Stretch
 pub mod Own
 pub mod Keeping
+pub mod Filling

@@ -1,5 +1,5 @@
--- A walk kept along worker q, which is neither ready nor waits: from the end of the walk without one of its operations to
--- the walk without the next one. In order: its operations by rank; the one that is left out is let in, whoever it
+-- A walk kept along worker q, which is neither ready nor waits: from the end of the walk without one of its operations
+-- to the walk without the next one. In order: its operations by rank; the one that is left out is let in, whoever it
 -- frees; a plain one; a step; a stretch of plain ones.
 use mathlib.Core.Bool.{Bool, true, false, not, _&&_}
 use mathlib.Core.List.{List, [], _∷_, _++_}
@@ -13,7 +13,7 @@ use lib.Seq.{getD-set-same, getD-set-other, set-getD, set-set}
 use borrow.Author.Tests.{eq-eqb}
 use Rattle.basics.specs.Membership.{upTo}
 use Rattle.basics.proofs.Booleans.{equal?, less?, zero-one}
-use Rattle.runs.specs.Workers.{count, earlier}
+use Rattle.runs.specs.Workers.{count}
 use Rattle.runs.proofs.Counts.{earlier-less}
 use Rattle.trace.specs.Premises.{Fits}
 use Rattle.trace.specs.Trace.{Trace, size, workerOf}
@@ -25,7 +25,7 @@ use Rattle.model.specs.Runs.{CompleteRunOf}
 use Rattle.index.specs.Indexed.{Rth}
 use Rattle.index.specs.Steps.{operationAt, holds, event, Tells, Plain, Between, Follows}
 use Rattle.index.proofs.Operations.{rth-at, at-rth, at-inside}
-use Rattle.states.specs.States.{EndsRun, Exhausted, nextOf, Free, Posted}
+use Rattle.states.specs.States.{EndsRun, Exhausted, nextOf, Posted}
 use Rattle.states.proofs.Along.{own-count, own-free, own-ends}
 use Rattle.walk.specs.Going.{Stopped, at-end, at-left-out, at-event, Awake, Going, Released}
 use Rattle.walk.proofs.Releasing.{released-none, released-step, still}
@@ -74,7 +74,12 @@ module _ {t : Trace} (f : Fits t) {q i a : ℕ} {r list ends lasts nexts counts 
         → ((p : ℕ) → Awake waiting′ freed p → Awake waiting 0 p)
         → Going t b q (r ++ a ∷ []) list ends lasts nexts (set counts q (i + 1)) events′ waiting′ freed
     going-freed {events′} {waiting′} {freed} posted released was =
-        record { run = run; follows = follows; awake = λ p h. x .awake p (was p h); stands = λ p l. stands p l (equal? p q) }
+        record {
+          run = run;
+          follows = follows;
+          awake = λ p h. x .awake p (was p h);
+          stands = λ p l. stands p l (equal? p q);
+        }
       where
         run : EndsRun t b (r ++ a ∷ []) (set counts q (i + 1)) events′
         run =

@@ -5,7 +5,7 @@ use native.Mathlib.Omega.{arith}
 use Prim.Native.Nat.{ℕ, _+_, _<_, _≤_}
 use lib.ListN.{length, getD, set, take, length-set}
 use lib.Seq.{getD-set-same, set-getD, set-set, length-take-le}
-use Rattle.trace.specs.Trace.{Trace, size}
+use Rattle.trace.specs.Trace.{Trace}
 use Rattle.model.specs.Computed.{row}
 use Rattle.index.specs.Indexed.{Places, Rth}
 use Rattle.index.proofs.Lookups.{part-count, part-rth}
@@ -22,21 +22,23 @@ along-start order starts p q i counts before =
 
 -- ---- one more
 
-module _ {p q i j : ℕ} {order starts counts before : List ℕ} (room : RoomAlong p q i j order starts counts before) {m : ℕ}
-    {counts′ now : List ℕ} (s : RowsAlong order starts p q i m counts before counts′ now) (h : i ≤ m) (l : m < j) where
+module _ {p q i j : ℕ} {order starts counts before : List ℕ} (room : RoomAlong p q i j order starts counts before)
+    {m : ℕ} {counts′ now : List ℕ} (s : RowsAlong order starts p q i m counts before counts′ now) (h : i ≤ m)
+    (l : m < j) where
   own-set : set counts′ q m ≡ set counts q m
   own-set = rw (s .others) (set-set counts q (getD counts′ q 0) m)
 
-  along-counters : length (set counts′ q m) ≡ length counts
-  along-counters = rw own-set (length-set counts q m)
+  counters : (v : ℕ) → length (set counts′ q v) ≡ length counts
+  counters v = length-set counts′ q v ∙ rw (s .others) (length-set counts q (getD counts′ q 0))
 
-  pub along-room : RoomAt p (getD order (getD starts q 0 + m) 0) (set counts′ q m) now
-  along-room =
+  -- whatever the worker's own count
+  pub along-room : (v : ℕ) → RoomAt p (getD order (getD starts q 0 + m) 0) (set counts′ q v) now
+  along-room v =
       let r = room .each m h l in
       record {
         workers = r .workers;
         few = r .few;
-        counts-hold = omega (arith, r .counts-hold, along-counters);
+        counts-hold = omega (arith, r .counts-hold, counters v);
         table-holds = omega (arith, r .table-holds, s .same-length);
       }
 
@@ -51,7 +53,7 @@ module _ {p q i j : ℕ} {order starts counts before : List ℕ} (room : RoomAlo
       long : length next ≡ length now
       long =
           rw e (put-length p k (take p (set counts′ q m)) now
-          (length-take-le p (set counts′ q m) (along-room .counts-hold)) (along-room .table-holds))
+          (length-take-le p (set counts′ q m) (along-room m .counts-hold)) (along-room m .table-holds))
 
       others : set counts′ q m ≡ set counts q (getD (set counts′ q m) q 0)
       others =
@@ -62,7 +64,7 @@ module _ {p q i j : ℕ} {order starts counts before : List ℕ} (room : RoomAlo
           → RowsTo t starts (getD starts q 0 + (m + 1)) old next
       rows t n x w known r old y =
           let on : getD starts q 0 + m + 1 ≡ getD starts q 0 + (m + 1) = omega arith in
-          let more = rows-more x before-this (o .below) here row-here (rw w (along-room .table-holds)) in
+          let more = rows-more x before-this (o .below) here row-here (rw w (along-room m .table-holds)) in
           rw (e, ← w) (rw on at more)
         where
           before-this : RowsTo t starts (getD starts q 0 + m) old now

@@ -1,12 +1,10 @@
 // Writing the rows of the order table of an accepted file.
-ghost use mathlib.Core.Bool.{cond};
 ghost use mathlib.Core.Path.{_≡_};
-ghost use Prim.Native.Nat.{_+_, _*_, _<_, _≤_};
-ghost use lib.Dec.{ltb};
+ghost use Prim.Native.Nat.{_*_, _<_, _≤_};
 ghost use lib.ListN.{length, getD, take};
 ghost use Rattle.trace.specs.Premises.{HoldsTrace};
 ghost use Rattle.trace.specs.Reading.{traceOf};
-ghost use Rattle.index.specs.Steps.{ahead, Handed};
+ghost use Rattle.index.specs.Steps.{Handed};
 ghost use Rattle.accept.specs.Acceptance.{AcceptedTrace};
 ghost use Rattle.lent.specs.Written.{writtenOver};
 ghost use Rattle.table_rows.specs.Filling.{RoomAt, RoomAlong, Fillable, rowPut, RowsAlong, FillsPart, stretchEnd};
@@ -59,20 +57,20 @@ fn put_rows(
     }
 }
 
-// Up to where the rows of a worker's operations differ in its own count alone: with the step of entry `own` of its list;
-// where the list has ended, with the last of its operations.
-fn stretch_end(list: &[u32; 1024], own: usize, end: usize, last: usize) -> usize
-    requires { ⌜ «end» ≤ 1024 ⌝ }
-    ensures { λ r. ⌜ r ≡ stretchEnd (now (list .entry)) «end» last own ⌝ }
+// Up to where the rows of worker q's operations, of which it has `last`, differ in its own count alone: with the step
+// of entry `own` of its list; where the list has ended, with the last of them.
+fn stretch_end(list: &[u32; 1024], ends: &[u16; 16], q: usize, own: usize, last: usize) -> usize
+    requires { ⌜ (q < 16) × (getD (now ends) q 0 ≤ 1024) ⌝ }
+    ensures { λ r. ⌜ r ≡ stretchEnd (now (list .entry)) (getD (now (ends .entry)) q 0) last own ⌝ }
 {
-    if own < end {
+    if own < basics::index(ends[q]) {
         return basics::wide_index(list[own]) / 65536 + 1;
     }
     last
 }
 
-// Writes the rows of worker q's operations. The walk without one of them is kept: behind a step of the worker, which may
-// free others, the walk without the next operation goes on from there.
+// Writes the rows of worker q's operations. The walk without one of them is kept: behind a step of the worker, which
+// may free others, the walk without the next operation goes on from there.
 fn fill_worker(
     file: &[u8],
     p: usize,
@@ -96,12 +94,20 @@ fn fill_worker(
     courses::begin(starts, &mut nexts, &mut lasts);
     let mut ready = masks::without(masks::below(p as u32), q as u32);
     let mut own = basics::index(starts[q]);
-    let end = basics::index(ends[q]);
     let last = basics::index(lasts[q]);
     let mut from: usize = 0;
     while from < last {
-        walk::walk_on(list, ends, &lasts, ready, &mut nexts, &mut done, &mut events, &mut waiting);
-        let to = stretch_end(list, own, end, last);
+        walk::walk_on(
+            list,
+            ends,
+            &lasts,
+            ready,
+            &mut nexts,
+            &mut done,
+            &mut events,
+            &mut waiting,
+        );
+        let to = stretch_end(list, ends, q, own, last);
         put_rows(p, order, starts, q, from, to, &mut done, table);
         if last <= to {
             return;
