@@ -10,18 +10,6 @@ ghost use Rattle.lent.specs.Written.{writtenOver};
 ghost use Rattle.table_rows.specs.Filling.{RoomAt, RoomAlong, Fillable, rowPut, RowsAlong, FillsPart, stretchEnd};
 ghost use Rattle.table_rows.specs.Rows.{orderTable};
 
-// Writes a row: the done counts of as many workers as it has numbers.
-fn write_row(done: &[u16; 16], part: &mut [u16])
-    requires { ⌜ (length (now part) ≤ 16) × (length (now part) ≤ length (now done)) ⌝ }
-    ensures { λ r. ⌜ now (part .exit) ≡ take (length (now (part .entry))) (now (done .entry)) ⌝ }
-{
-    let mut q = 0;
-    while q < part.len() {
-        part[q] = done[q];
-        q += 1;
-    }
-}
-
 // Writes the row of operation k to its part of the table.
 fn put_row(done: &[u16; 16], p: usize, k: usize, table: &mut [u16])
     requires { ⌜ RoomAt p k (now done) (now table) ⌝ }
@@ -29,7 +17,7 @@ fn put_row(done: &[u16; 16], p: usize, k: usize, table: &mut [u16])
 {
     let first = k * p;
     let end = first + p;
-    write_row(done, &mut table[first..end]);
+    row_writer::write_row(done, &mut table[first..end]);
 }
 
 // Writes the rows of worker q's operations with at least `from` earlier ones and fewer than `to`: the same done counts,

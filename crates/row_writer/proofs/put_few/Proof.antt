@@ -1,12 +1,12 @@
--- `write_row` meets its contract. The invariant: the first q counts are written. Assumes nothing.
+-- `put_few` meets its contract. The invariant: the first q counts are written. Assumes nothing.
 use mathlib.Core.Path.{_≡_, ap, _∙_}
 use native.Mathlib.Omega.{arith}
 use Prim.Native.Nat.{ℕ, _-_}
 use lib.ListN.{length, take}
 use borrow.Author.Needs.{needs}
 use Rattle.lent.proofs.Writing.{Written, written-none, written-copy, written-all}
-use Rattle.table_rows.proofs.write_row.Statement.{statement}
-use Rattle.table_rows.proofs.write_row.Tie as tie
+use Rattle.row_writer.proofs.put_few.Statement.{statement}
+use Rattle.row_writer.proofs.put_few.Tie as tie
 
 abbrev Inv-loop : tie.InvT-loop
 Inv-loop done part₀ q₀ part q = Written q (take q done) part₀ part
@@ -53,8 +53,8 @@ returns c =
     = omega (arith, c .loop-test .left, c1 .loop .inv .fits, c1 .loop .inv .size) in
     written-all (c1 .loop .inv) (c .loop-test .left) ∙ ap (λ (i : ℕ). take i (s .args .done .now)) full
 
-pub write-row-spec : {M : Type 1} → statement M
-write-row-spec =
+pub put-few-spec : {M : Type 1} → statement M
+put-few-spec =
     tie.close
     (tie.spec
     Inv-loop
