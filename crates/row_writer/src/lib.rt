@@ -1,7 +1,7 @@
-// Writing a row of the order table to its part: what is read, before anything is stored, for speed.
+// Writing a row of the order table to its part.
 ghost use mathlib.Core.Path.{_≡_};
-ghost use Prim.Native.Nat.{_+_, _≤_};
-ghost use lib.ListN.{length, take, drop};
+ghost use Prim.Native.Nat.{_+_, _<_, _≤_};
+ghost use lib.ListN.{length, set, take, drop};
 ghost use lib.Seq.{paste};
 
 // Four counts, from the one of worker `at` on.
@@ -54,8 +54,8 @@ fn put_few(done: &[u16; 16], part: &mut [u16])
     }
 }
 
-// Writes a row: the done counts of as many workers as it has numbers, by eights or fours that may overlap.
-pub fn write_row(done: &[u16; 16], part: &mut [u16])
+// The done counts of as many workers as a row has numbers, by eights or fours that may overlap.
+fn put_counts(done: &[u16; 16], part: &mut [u16])
     requires { ⌜ (length (now part) ≤ 16) × (length (now part) ≤ length (now done)) ⌝ }
     ensures { λ r. ⌜ now (part .exit) ≡ take (length (now (part .entry))) (now (done .entry)) ⌝ }
 {
@@ -71,4 +71,13 @@ pub fn write_row(done: &[u16; 16], part: &mut [u16])
         return;
     }
     put_few(done, part);
+}
+
+// Writes a row: the done counts of as many workers as it has numbers, but worker q's is `own`.
+pub fn write_row(done: &[u16; 16], q: usize, own: u16, part: &mut [u16])
+    requires { ⌜ (length (now part) ≤ 16) × (length (now part) ≤ length (now done)) × (q < length (now part)) ⌝ }
+    ensures { λ r. ⌜ now (part .exit) ≡ take (length (now (part .entry))) (set (now (done .entry)) q own) ⌝ }
+{
+    put_counts(done, part);
+    part[q] = own;
 }

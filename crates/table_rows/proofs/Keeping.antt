@@ -156,6 +156,7 @@ module _ {bytes : List ℕ} {p n : ℕ} {order starts list ends before : List �
           record {
             up = omega (arith, to-upto .0);
             own = low;
+            known = hq;
             counters = w .sized .counters;
             places = omega (arith, to-upto .1, last-place, part-end, x .holds .few);
             each = each;

@@ -20,6 +20,18 @@ pub along-start : (order starts : List ℕ) (p q i : ℕ) (counts before : List 
 along-start order starts p q i counts before =
     record { same-length = refl; others = sym (set-getD counts q 0); rows = λ t n x e l r old y. y }
 
+-- the worker's own count is another
+pub along-own : {order starts : List ℕ} {p q i j : ℕ} {counts before counts′ now : List ℕ} (v : ℕ)
+    → RowsAlong order starts p q i j counts before counts′ now → q < length counts
+    → RowsAlong order starts p q i j counts before (set counts′ q v) now
+along-own {q = q} {counts = counts} {counts′ = counts′} v s l =
+    let same : set counts′ q v ≡ set counts q v = rw (s .others) (set-set counts q (getD counts′ q 0) v) in
+    record {
+      same-length = s .same-length;
+      others = rw (same, getD-set-same counts q v 0 l);
+      rows = s .rows;
+    }
+
 -- ---- one more
 
 module _ {p q i j : ℕ} {order starts counts before : List ℕ} (room : RoomAlong p q i j order starts counts before)
@@ -28,24 +40,23 @@ module _ {p q i j : ℕ} {order starts counts before : List ℕ} (room : RoomAlo
   own-set : set counts′ q m ≡ set counts q m
   own-set = rw (s .others) (set-set counts q (getD counts′ q 0) m)
 
-  counters : (v : ℕ) → length (set counts′ q v) ≡ length counts
-  counters v = length-set counts′ q v ∙ rw (s .others) (length-set counts q (getD counts′ q 0))
+  counters : length counts′ ≡ length counts
+  counters = rw (s .others) (length-set counts q (getD counts′ q 0))
 
-  -- whatever the worker's own count
-  pub along-room : (v : ℕ) → RoomAt p (getD order (getD starts q 0 + m) 0) (set counts′ q v) now
-  along-room v =
+  pub along-room : RoomAt p (getD order (getD starts q 0 + m) 0) counts′ now
+  along-room =
       let r = room .each m h l in
       record {
         workers = r .workers;
         few = r .few;
-        counts-hold = omega (arith, r .counts-hold, counters v);
+        counts-hold = omega (arith, r .counts-hold, counters);
         table-holds = omega (arith, r .table-holds, s .same-length);
       }
 
   pub along-next : {next : List ℕ}
       → next ≡ rowPut p (getD order (getD starts q 0 + m) 0) (take p (set counts′ q m)) now
-      → RowsAlong order starts p q i (m + 1) counts before (set counts′ q m) next
-  along-next {next} e = record { same-length = long ∙ s .same-length; others = others; rows = rows }
+      → RowsAlong order starts p q i (m + 1) counts before counts′ next
+  along-next {next} e = record { same-length = long ∙ s .same-length; others = s .others; rows = rows }
     where
       k : ℕ
       k = getD order (getD starts q 0 + m) 0
@@ -53,18 +64,15 @@ module _ {p q i j : ℕ} {order starts counts before : List ℕ} (room : RoomAlo
       long : length next ≡ length now
       long =
           rw e (put-length p k (take p (set counts′ q m)) now
-          (length-take-le p (set counts′ q m) (along-room m .counts-hold)) (along-room m .table-holds))
-
-      others : set counts′ q m ≡ set counts q (getD (set counts′ q m) q 0)
-      others =
-          rw (own-set, getD-set-same counts q m 0 (omega (arith, room .own, room .counters)))
+          (length-take-le p (set counts′ q m) (omega (arith, along-room .counts-hold, length-set counts′ q m)))
+          (along-room .table-holds))
 
       rows : (t : Trace) (n : ℕ) → Places t n order starts → t .workers ≡ p → q < p → RowsOf t q i (m + 1) counts
           → (old : List ℕ) → RowsTo t starts (getD starts q 0 + i) old before
           → RowsTo t starts (getD starts q 0 + (m + 1)) old next
       rows t n x w known r old y =
           let on : getD starts q 0 + m + 1 ≡ getD starts q 0 + (m + 1) = omega arith in
-          let more = rows-more x before-this (o .below) here row-here (rw w (along-room m .table-holds)) in
+          let more = rows-more x before-this (o .below) here row-here (rw w (along-room .table-holds)) in
           rw (e, ← w) (rw on at more)
         where
           before-this : RowsTo t starts (getD starts q 0 + m) old now

@@ -57,6 +57,7 @@ FillsPart t starts q before now =
 pub record RoomAlong (p q i j : ℕ) (order starts counts table : List ℕ) : Type 0 where
   pub up : i ≤ j
   pub own : q < 16
+  pub known : q < p
   pub counters : length counts ≡ 16
   pub places : getD starts q 0 + j ≤ 1024
   pub each : (m : ℕ) → i ≤ m → m < j → RoomAt p (getD order (getD starts q 0 + m) 0) counts table

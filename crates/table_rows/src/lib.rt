@@ -1,7 +1,7 @@
 // Writing the rows of the order table of an accepted file.
 ghost use mathlib.Core.Path.{_≡_};
 ghost use Prim.Native.Nat.{_*_, _<_, _≤_};
-ghost use lib.ListN.{length, getD, take};
+ghost use lib.ListN.{length, getD, set, take};
 ghost use Rattle.trace.specs.Premises.{HoldsTrace};
 ghost use Rattle.trace.specs.Reading.{traceOf};
 ghost use Rattle.index.specs.Steps.{Handed};
@@ -10,18 +10,18 @@ ghost use Rattle.lent.specs.Written.{writtenOver};
 ghost use Rattle.table_rows.specs.Filling.{RoomAt, RoomAlong, Fillable, rowPut, RowsAlong, FillsPart, stretchEnd};
 ghost use Rattle.table_rows.specs.Rows.{orderTable};
 
-// Writes the row of operation k to its part of the table.
-fn put_row(done: &[u16; 16], p: usize, k: usize, table: &mut [u16])
-    requires { ⌜ RoomAt p k (now done) (now table) ⌝ }
-    ensures { λ r. ⌜ now (table .exit) ≡ rowPut p k (take p (now (done .entry))) (now (table .entry)) ⌝ }
+// Writes the row of operation k, worker q's with `own` earlier ones, to its part of the table.
+fn put_row(done: &[u16; 16], p: usize, k: usize, q: usize, own: u16, table: &mut [u16])
+    requires { ⌜ RoomAt p k (now done) (now table) × (q < p) ⌝ }
+    ensures { λ r. ⌜ now (table .exit) ≡ rowPut p k (take p (set (now (done .entry)) q own)) (now (table .entry)) ⌝ }
 {
     let first = k * p;
     let end = first + p;
-    row_writer::write_row(done, &mut table[first..end]);
+    row_writer::write_row(done, q, own, &mut table[first..end]);
 }
 
 // Writes the rows of worker q's operations with at least `from` earlier ones and fewer than `to`: the same done counts,
-// but for its own.
+// but for its own. All of these operations but the last are done then.
 fn put_rows(
     p: usize,
     order: &[u16; 1024],
@@ -39,9 +39,11 @@ fn put_rows(
     let first = basics::index(starts[q]);
     let mut m = from;
     while m < to {
-        done[q] = m as u16;
-        put_row(done, p, basics::index(order[first + m]), table);
+        put_row(done, p, basics::index(order[first + m]), q, m as u16, table);
         m += 1;
+    }
+    if from < to {
+        done[q] = (to - 1) as u16;
     }
 }
 

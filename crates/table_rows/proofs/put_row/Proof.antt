@@ -17,31 +17,35 @@ width s =
     let first = s .args .k * s .args .p in
     let same = add-sub-cancel-left first (s .args .p) in
     length-take-le _ (drop first (s .args .table .now))
-    (simp length-drop (omega (arith, same, s .pre .table-holds))) ∙ same
+    (simp length-drop (omega (arith, same, s .pre .0 .table-holds))) ∙ same
 
 mul-first : tie.Need-mul-first
-mul-first c = let few = c .before .pre .few in search needs
+mul-first c = let few = c .before .pre .0 .few in search needs
 
 add-end : tie.Need-add-end
-add-end c = let few = c .before .pre .few in search needs
+add-end c = let few = c .before .pre .0 .few in search needs
 
 mul-write-row : tie.Need-mul-write-row
-mul-write-row c = let room = c .before .pre .few in search needs
+mul-write-row c = let room = c .before .pre .0 .few in search needs
 
 sub-write-row : tie.Need-sub-write-row
 sub-write-row c = search needs
 
 part-write-row-start : tie.Need-part-write-row-start
-part-write-row-start c = let room = c .before .pre .table-holds in search needs
+part-write-row-start c = let room = c .before .pre .0 .table-holds in search needs
 
 part-write-row-end : tie.Need-part-write-row-end
-part-write-row-end c = let room = c .before .pre .table-holds in search needs
+part-write-row-end c = let room = c .before .pre .0 .table-holds in search needs
 
 write-row-requires : tie.Need-write-row-requires
 write-row-requires c κs =
     let s = c .before .before in
     let long = width s in
-    (omega (arith, long, s .pre .workers), omega (arith, long, s .pre .counts-hold))
+    (
+      omega (arith, long, s .pre .0 .workers),
+      omega (arith, long, s .pre .0 .counts-hold),
+      omega (arith, long, s .pre .1),
+    )
 
 same-length : tie.Need-same-length
 same-length c = search needs
