@@ -175,7 +175,7 @@ module _ {bytes : List ℕ} {p n : ℕ} {order starts list ends before : List �
                 table-holds = omega (arith, row-end, x .room, k .same-length);
               }
 
-      module _ {counts″ now′ : List ℕ} (a : RowsAlong order starts p q i to counts′ now counts″ now′) where
+      module _ {now′ : List ℕ} (a : RowsAlong order starts p q i to counts′ now now′) where
         rows-to : (old : List ℕ) → RowsTo t starts (getD starts q 0) old before
             → RowsTo t starts (getD starts q 0 + to) old now′
         rows-to old r = a .rows t n places (x .holds .workers) hq rows-of old (k .rows old r)
@@ -183,24 +183,21 @@ module _ {bytes : List ℕ} {p n : ℕ} {order starts list ends before : List �
         -- ---- behind it
 
         pub kept-next : to < getD lasts q 0
-            → KeptAt t starts list ends lasts q to (own + 1) nexts′ (set counts″ q to)
+            → KeptAt t starts list ends lasts q to (own + 1) nexts′ (set counts′ q to)
             (withPost events′ (event (getD list own 0))) (set waiting′ (event (getD list own 0)) 0)
             (getD waiting′ (event (getD list own 0)) 0) before now′
         kept-next j =
-            rw own-set (record {
+            record {
               sized = sized;
               upto = omega arith;
               own-list = own-list;
               going = going;
               same-length = a .same-length ∙ k .same-length;
               rows = rows-to;
-            })
+            }
           where
             h : own < getD ends q 0
             h = to-own j
-
-            own-set : set counts″ q to ≡ set counts′ q to
-            own-set = rw (a .others) (set-set counts′ q (getD counts″ q 0) to)
 
             sized : Sized ends nexts′ (set counts′ q to) (withPost events′ (event (getD list own 0)))
                 (set waiting′ (event (getD list own 0)) 0)

@@ -1,70 +1,121 @@
--- A stretch of one worker's rows, which differ in its own count alone, row by row. In order: none; one more.
+-- A stretch of one worker's rows, which differ in its own count alone, row by row. In order: none; whatever the
+-- worker's own count; one more.
 use mathlib.Core.List.{List}
 use mathlib.Core.Path.{_≡_, refl, sym, _∙_}
 use native.Mathlib.Omega.{arith}
 use Prim.Native.Nat.{ℕ, _+_, _<_, _≤_}
-use lib.ListN.{length, getD, set, take, length-set}
-use lib.Seq.{getD-set-same, set-getD, set-set, length-take-le}
+use lib.ListN.{length, getD, set, take, replicate, length-set}
+use lib.Seq.{set-getD, set-set, length-take-le}
+use Rattle.basics.proofs.Bits.{zeros}
 use Rattle.trace.specs.Trace.{Trace}
 use Rattle.model.specs.Computed.{row}
 use Rattle.index.specs.Indexed.{Places, Rth}
 use Rattle.index.proofs.Lookups.{part-count, part-rth}
 use Rattle.index.proofs.Operations.{rth-at, at-count}
+use Rattle.walk.specs.Going.{Sized, Walked}
 use Rattle.table_rows.specs.Filling.{RoomAt, RoomAlong, rowPut, placeOf, RowsTo, RowsOf, RowsAlong}
 use Rattle.table_rows.proofs.Rows.{put-length, rows-more}
 
 -- ---- none
 
 pub along-start : (order starts : List ℕ) (p q i : ℕ) (counts before : List ℕ)
-    → RowsAlong order starts p q i i counts before counts before
-along-start order starts p q i counts before =
-    record { same-length = refl; others = sym (set-getD counts q 0); rows = λ t n x e l r old y. y }
+    → RowsAlong order starts p q i i counts before before
+along-start order starts p q i counts before = record { same-length = refl; rows = λ t n x e l r old y. y }
 
--- the worker's own count is another
-pub along-own : {order starts : List ℕ} {p q i j : ℕ} {counts before counts′ now : List ℕ} (v : ℕ)
-    → RowsAlong order starts p q i j counts before counts′ now → q < length counts
-    → RowsAlong order starts p q i j counts before (set counts′ q v) now
-along-own {q = q} {counts = counts} {counts′ = counts′} v s l =
-    let same : set counts′ q v ≡ set counts q v = rw (s .others) (set-set counts q (getD counts′ q 0) v) in
+-- ---- whatever the worker's own count
+
+pub along-own : {order starts : List ℕ} {p q i j : ℕ} (counts : List ℕ) {before now : List ℕ} (v : ℕ)
+    → RowsAlong order starts p q i j counts before now → RowsAlong order starts p q i j (set counts q v) before now
+along-own {q = q} counts v s =
     record {
       same-length = s .same-length;
-      others = rw (same, getD-set-same counts q v 0 l);
-      rows = s .rows;
+      rows = λ t n x e l r old y. s .rows t n x e l (record {
+        inside = r .inside;
+        each = λ m h k. rw (set-set counts q v m) at (r .each m h k);
+      }) old y;
+    }
+
+pub room-own : {p q i j : ℕ} {order starts : List ℕ} (counts : List ℕ) {table : List ℕ} (v : ℕ)
+    → RoomAlong p q i j order starts (set counts q v) table → RoomAlong p q i j order starts counts table
+room-own {q = q} counts v r =
+    let same = length-set counts q v in
+    record {
+      up = r .up;
+      own = r .own;
+      known = r .known;
+      counters = sym same ∙ r .counters;
+      places = r .places;
+      each = λ m h l.
+          let k = r .each m h l in
+          record {
+            workers = k .workers;
+            few = k .few;
+            counts-hold = omega (arith, same, k .counts-hold);
+            table-holds = k .table-holds;
+          };
+    }
+
+-- nothing done, and none of the worker's
+abbrev none : List ℕ
+none = replicate 16 0
+
+pub none-own : (q : ℕ) → set none q 0 ≡ none
+none-own q = rw (zeros 16 q) at (set-getD none q 0)
+
+pub walked-own : (q : ℕ)
+    {list ends lasts nexts counts events waiting nexts′ counts′ events′ waiting′ : List ℕ} {ready ready′ : ℕ}
+    → Walked list ends lasts nexts counts events waiting ready nexts′ counts′ events′ waiting′ ready′
+    → (m : ℕ) × Walked list ends lasts nexts counts events waiting ready nexts′ (set counts′ q m) events′ waiting′ ready′
+walked-own q {counts′ = counts′} w = (getD counts′ q 0, rw (set-getD counts′ q 0) w)
+
+pub sized-own : {ends nexts counts events waiting : List ℕ} (q v : ℕ) → Sized ends nexts counts events waiting
+    → Sized ends nexts (set counts q v) events waiting
+sized-own {counts = counts} q v s =
+    record {
+      places = s .places;
+      counters = length-set counts q v ∙ s .counters;
+      words = s .words;
+      room = s .room;
+      each = s .each;
+    }
+
+pub own-sized : {ends nexts : List ℕ} (counts : List ℕ) {events waiting : List ℕ} (q v : ℕ)
+    → Sized ends nexts (set counts q v) events waiting → Sized ends nexts counts events waiting
+own-sized counts q v s =
+    record {
+      places = s .places;
+      counters = sym (length-set counts q v) ∙ s .counters;
+      words = s .words;
+      room = s .room;
+      each = s .each;
     }
 
 -- ---- one more
 
 module _ {p q i j : ℕ} {order starts counts before : List ℕ} (room : RoomAlong p q i j order starts counts before)
-    {m : ℕ} {counts′ now : List ℕ} (s : RowsAlong order starts p q i m counts before counts′ now) (h : i ≤ m)
-    (l : m < j) where
-  own-set : set counts′ q m ≡ set counts q m
-  own-set = rw (s .others) (set-set counts q (getD counts′ q 0) m)
-
-  counters : length counts′ ≡ length counts
-  counters = rw (s .others) (length-set counts q (getD counts′ q 0))
-
-  pub along-room : RoomAt p (getD order (getD starts q 0 + m) 0) counts′ now
+    {m : ℕ} {now : List ℕ} (s : RowsAlong order starts p q i m counts before now) (h : i ≤ m) (l : m < j) where
+  pub along-room : RoomAt p (getD order (getD starts q 0 + m) 0) counts now
   along-room =
       let r = room .each m h l in
       record {
         workers = r .workers;
         few = r .few;
-        counts-hold = omega (arith, r .counts-hold, counters);
+        counts-hold = r .counts-hold;
         table-holds = omega (arith, r .table-holds, s .same-length);
       }
 
   pub along-next : {next : List ℕ}
-      → next ≡ rowPut p (getD order (getD starts q 0 + m) 0) (take p (set counts′ q m)) now
-      → RowsAlong order starts p q i (m + 1) counts before counts′ next
-  along-next {next} e = record { same-length = long ∙ s .same-length; others = s .others; rows = rows }
+      → next ≡ rowPut p (getD order (getD starts q 0 + m) 0) (take p (set counts q m)) now
+      → RowsAlong order starts p q i (m + 1) counts before next
+  along-next {next} e = record { same-length = long ∙ s .same-length; rows = rows }
     where
       k : ℕ
       k = getD order (getD starts q 0 + m) 0
 
       long : length next ≡ length now
       long =
-          rw e (put-length p k (take p (set counts′ q m)) now
-          (length-take-le p (set counts′ q m) (omega (arith, along-room .counts-hold, length-set counts′ q m)))
+          rw e (put-length p k (take p (set counts q m)) now
+          (length-take-le p (set counts q m) (omega (arith, along-room .counts-hold, length-set counts q m)))
           (along-room .table-holds))
 
       rows : (t : Trace) (n : ℕ) → Places t n order starts → t .workers ≡ p → q < p → RowsOf t q i (m + 1) counts
@@ -91,5 +142,5 @@ module _ {p q i j : ℕ} {order starts counts before : List ℕ} (room : RoomAlo
           here : placeOf t starts k ≡ getD starts q 0 + m
           here = rw (o .ahead, o .own)
 
-          row-here : take (t .workers) (set counts′ q m) ≡ row t k
-          row-here = rw (own-set, ← rth-at t o) (r .each m h (omega arith))
+          row-here : take (t .workers) (set counts q m) ≡ row t k
+          row-here = rw (← rth-at t o) (r .each m h (omega arith))

@@ -67,10 +67,9 @@ pub record RowsOf (t : Trace) (q i j : ℕ) (counts : List ℕ) : Type 0 where
   pub inside : (m : ℕ) → i ≤ m → m < j → operationAt t q m < size t
   pub each : (m : ℕ) → i ≤ m → m < j → take (t .workers) (set counts q m) ≡ row t (operationAt t q m)
 
--- where they are, these rows are filled too; of the counts, none but worker q's is another
-pub record RowsAlong (order starts : List ℕ) (p q i j : ℕ) (counts before counts′ now : List ℕ) : Type 0 where
+-- where they are, these rows are filled too
+pub record RowsAlong (order starts : List ℕ) (p q i j : ℕ) (counts before now : List ℕ) : Type 0 where
   pub same-length : length now ≡ length before
-  pub others : counts′ ≡ set counts q (getD counts′ q 0)
   pub rows : (t : Trace) (n : ℕ) → Places t n order starts → t .workers ≡ p → q < p → RowsOf t q i j counts
       → (old : List ℕ) → RowsTo t starts (getD starts q 0 + i) old before
       → RowsTo t starts (getD starts q 0 + j) old now

@@ -1,10 +1,11 @@
 // Writing the rows of the order table of an accepted file.
 ghost use mathlib.Core.Path.{_≡_};
-ghost use Prim.Native.Nat.{_*_, _<_, _≤_};
+ghost use Prim.Native.Nat.{ℕ, _*_, _<_, _≤_};
 ghost use lib.ListN.{length, getD, set, take};
 ghost use Rattle.trace.specs.Premises.{HoldsTrace};
 ghost use Rattle.trace.specs.Reading.{traceOf};
 ghost use Rattle.index.specs.Steps.{Handed};
+ghost use Rattle.walk.specs.Going.{Sized, Walked};
 ghost use Rattle.accept.specs.Acceptance.{AcceptedTrace};
 ghost use Rattle.lent.specs.Written.{writtenOver};
 ghost use Rattle.table_rows.specs.Filling.{RoomAt, RoomAlong, Fillable, rowPut, RowsAlong, FillsPart, stretchEnd};
@@ -21,7 +22,7 @@ fn put_row(done: &[u16; 16], p: usize, k: usize, q: usize, own: u16, table: &mut
 }
 
 // Writes the rows of worker q's operations with at least `from` earlier ones and fewer than `to`: the same done counts,
-// but for its own. All of these operations but the last are done then.
+// but for its own.
 fn put_rows(
     p: usize,
     order: &[u16; 1024],
@@ -29,21 +30,18 @@ fn put_rows(
     q: usize,
     from: usize,
     to: usize,
-    done: &mut [u16; 16],
+    done: &[u16; 16],
     table: &mut [u16],
 )
     requires { ⌜ RoomAlong p q from to (now order) (now starts) (now done) (now table) ⌝ }
     ensures { λ r. ⌜ RowsAlong (now (order .entry)) (now (starts .entry)) p q from to
-        (now (done .entry)) (now (table .entry)) (now (done .exit)) (now (table .exit)) ⌝ }
+        (now (done .entry)) (now (table .entry)) (now (table .exit)) ⌝ }
 {
     let first = basics::index(starts[q]);
     let mut m = from;
     while m < to {
         put_row(done, p, basics::index(order[first + m]), q, m as u16, table);
         m += 1;
-    }
-    if from < to {
-        done[q] = (to - 1) as u16;
     }
 }
 
@@ -59,8 +57,33 @@ fn stretch_end(list: &[u32; 1024], ends: &[u16; 16], q: usize, own: usize, last:
     last
 }
 
+// Goes on with the walk until nobody is ready. Worker q, which is neither ready nor waits, has done `from` operations:
+// they are added to the done counts where others go on.
+fn exhaust(
+    list: &[u32; 1024],
+    ends: &[u16; 16],
+    lasts: &[u16; 16],
+    ready: u16,
+    q: usize,
+    from: usize,
+    nexts: &mut [u16; 16],
+    done: &mut [u16; 16],
+    events: &mut [u64; 4],
+    waiting: &mut [u16; 256],
+)
+    requires { ⌜ Sized (now ends) (now nexts) (now done) (now events) (now waiting) × (q < 16) × (from < 65536) ⌝ }
+    ensures { λ r. ⌜ ((m : ℕ) × Walked (now (list .entry)) (now (ends .entry)) (now (lasts .entry)) (now (nexts .entry))
+        (set (now (done .entry)) q from) (now (events .entry)) (now (waiting .entry)) ready
+        (now (nexts .exit)) (set (now (done .exit)) q m) (now (events .exit)) (now (waiting .exit)) 0) ⌝ }
+{
+    if ready != 0 {
+        done[q] = from as u16;
+        walk::walk_on(list, ends, lasts, ready, nexts, done, events, waiting);
+    }
+}
+
 // Writes the rows of worker q's operations. The walk without one of them is kept: behind a step of the worker, which
-// may free others, the walk without the next operation goes on from there.
+// may free others, the walk without the next operation goes on from there. The worker's last operation is never added.
 fn fill_worker(
     file: &[u8],
     p: usize,
@@ -87,23 +110,25 @@ fn fill_worker(
     let last = basics::index(lasts[q]);
     let mut from: usize = 0;
     while from < last {
-        walk::walk_on(
+        exhaust(
             list,
             ends,
             &lasts,
             ready,
+            q,
+            from,
             &mut nexts,
             &mut done,
             &mut events,
             &mut waiting,
         );
         let to = stretch_end(list, ends, q, own, last);
-        put_rows(p, order, starts, q, from, to, &mut done, table);
+        put_rows(p, order, starts, q, from, to, &done, table);
         if last <= to {
+            done[q] = (last - 1) as u16;
             return;
         }
         ready = walk::release(list[own] % 256, &mut events, &mut waiting);
-        done[q] = to as u16;
         own += 1;
         from = to;
     }

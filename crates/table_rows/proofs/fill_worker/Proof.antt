@@ -1,215 +1,217 @@
--- `fill_worker` meets its contract. The invariant: the rows of the operations with fewer than `from` earlier ones are
--- written, and the walk is kept for that with `from`. Assumes nothing.
-use mathlib.Core.Path.{refl, _∙_}
-use native.Mathlib.Omega.{arith}
-use Prim.Native.Nat.{_-_}
 use borrow.Author.Needs.{needs}
-use Rattle.trace.specs.Reading.{traceOf}
-use Rattle.index.proofs.Lookups.{holds-places, part-ordered}
-use Rattle.table_rows.proofs.Filling.{kept-start}
-use Rattle.table_rows.proofs.Keeping.{KeptAt, list-few, own-few, to-upto, to-own, room-along}
+use Rattle.table_rows.proofs.Stretch.{along-own, room-own, own-sized, none-own}
 use Rattle.table_rows.proofs.Keeping.{kept-next, kept-last, kept-end}
+use Rattle.table_rows.proofs.Keeping.{KeptAt, list-few, own-few, to-upto, to-own, room-along}
+use Rattle.table_rows.proofs.Filling.{kept-start}
+use Rattle.index.proofs.Lookups.{holds-places, part-ordered}
+use Rattle.trace.specs.Reading.{traceOf}
+use lib.Seq.{set-set}
+use lib.ListN.{set}
+use Prim.Native.Nat.{ℕ, _-_, _<_, _≤_}
+use native.Mathlib.Omega.{arith}
+use mathlib.Core.Path.{_≡_, refl, _∙_}
 use Rattle.table_rows.proofs.fill_worker.Statement.{statement}
 use Rattle.table_rows.proofs.fill_worker.Tie as tie
+use Rattle.table_rows.proofs.fill_worker.Reads as reads
+use Rattle.table_rows.proofs.fill_worker.Lts as lts
+use Rattle.basics.proofs.index.Reads as index-reads
+use Rattle.courses.proofs.begin.Reads as begin-reads
+use Rattle.masks.proofs.below.Reads as below-reads
+use Rattle.masks.proofs.without.Reads as without-reads
+use Rattle.table_rows.proofs.exhaust.Reads as exhaust-reads
+use Rattle.table_rows.proofs.put_rows.Reads as put-rows-reads
+use Rattle.table_rows.proofs.stretch_end.Reads as stretch-end-reads
+use Rattle.walk.proofs.release.Reads as release-reads
 
 abbrev Inv-loop : tie.InvT-loop
-Inv-loop file p n order starts list ends q table₀ nexts₀ lasts done₀ events₀ waiting₀ ready₀ own₀ last from₀ table nexts
-    done events waiting ready own from =
-    KeptAt (traceOf file) starts list ends lasts q from own nexts done events waiting ready table₀ table
+Inv-loop file p n order starts list ends q table₀ nexts₀ lasts done₀ events₀ waiting₀ ready₀ own₀ last from₀ table nexts done events waiting ready own from =
+    KeptAt (traceOf file) starts list ends lasts q from own nexts (set done q from) events waiting ready table₀ table
 
 abbrev μ-loop : tie.MeasureT-loop
-μ-loop file p n order starts list ends q table₀ nexts₀ lasts done₀ events₀ waiting₀ ready₀ own₀ last from₀ table nexts
-    done events waiting ready own from =
-    last - from
+μ-loop file p n order starts list ends q table₀ nexts₀ lasts done₀ events₀ waiting₀ ready₀ own₀ last from₀ table nexts done events waiting ready own from = last - from
 
+-- src/lib.rt:107:5
 begin-requires : tie.Need-begin-requires Inv-loop μ-loop
 begin-requires c κs =
     let (x, hq) = c .before .before .before .before .pre in
     (part-ordered (holds-places (x .holds) (x .handed .indexed)), refl, refl)
 
+-- src/lib.rt:108:49
 cast-below : tie.Need-cast-below Inv-loop μ-loop
 cast-below c =
-    let c5 = c .before .before .before .before .before in
-    let few = c5 .pre .0 .holds .most in
+    let few = c .before .before .before .before .before .pre .0 .holds .most in
     search needs
 
+-- src/lib.rt:108:36
 below-requires : tie.Need-below-requires Inv-loop μ-loop
-below-requires c κs =
-    let c5 = c .before .before .before .before .before in
-    c5 .pre .0 .holds .most
+below-requires c κs = c .before .before .before .before .before .pre .0 .holds .most
 
+-- src/lib.rt:108:60
 cast-without : tie.Need-cast-without Inv-loop μ-loop
 cast-without c =
-    let c6 = c .before .before .before .before .before .before in
-    let (x, hq) = c6 .pre in
+    let (x, hq) = c .before .before .before .before .before .before .pre in
     let few = x .holds .most in
     search needs
 
+-- src/lib.rt:108:9
 without-requires : tie.Need-without-requires Inv-loop μ-loop
 without-requires c κs =
-    let c6 = c .before .before .before .before .before .before in
-    let (x, hq) = c6 .pre in
+    let (x, hq) = c .before .before .before .before .before .before .pre in
     (omega (arith, hq, x .holds .most), c .below .ensures .all _ hq)
 
+-- src/lib.rt:109:33
 mul-index : tie.Need-mul-index Inv-loop μ-loop
 mul-index c = search needs
 
+-- src/lib.rt:109:33
 element-copy-out-index : tie.Need-element-copy-out-index Inv-loop μ-loop
 element-copy-out-index c = search needs
 
+-- src/lib.rt:109:9
 index-requires : tie.Need-index-requires Inv-loop μ-loop
 index-requires c κs = search needs
 
+-- src/lib.rt:110:30
 mul-index-2 : tie.Need-mul-index-2 Inv-loop μ-loop
 mul-index-2 c = search needs
 
+-- src/lib.rt:110:30
 array-read-index : tie.Need-array-read-index Inv-loop μ-loop
 array-read-index c = search needs
 
+-- src/lib.rt:110:9
 index-requires-2 : tie.Need-index-requires-2 Inv-loop μ-loop
 index-requires-2 c κs = search needs
 
+-- src/lib.rt:112:5
 loop-holds : tie.Need-loop-holds Inv-loop μ-loop
 loop-holds c =
-    let c3 = c .before .before .before in
-    let c10 = c3 .before .before .before .before .before .before .before in
-    let (x, hq) = c10 .pre in
-    let begun = c3 .before .before .begin .ensures in
-    rw (c .before .index .ensures .0) (kept-start x hq begun (c3 .before .below .ensures) (c3 .without .ensures))
+    let (x, hq) = c .before .before .before .before .before .before .before .before .before .before .pre in
+    let start = kept-start x hq (c .before .before .before .before .before .begin .ensures) (c .before .before .before .before .below .ensures) (c .before .before .before .without .ensures) in
+    rw (c .before .index .ensures .0, none-own (c .before .before .before .before .before .before .before .before .before .before .args .q)) start
 
-walk-on-requires : tie.Need-walk-on-requires Inv-loop μ-loop
-walk-on-requires c κs =
-    let c6 = c .before .before .before .before .before .before in
-    c6 .loop .inv .sized
+-- src/lib.rt:113:9
+exhaust-requires : tie.Need-exhaust-requires Inv-loop μ-loop
+exhaust-requires c κs =
+    let (x, hq) = c .before .before .before .before .before .before .before .before .before .before .before .before .before .before .before .before .before .pre in
+    let few = c .before .before .before .before .before .before .before .index2 .ensures .1 in
+    (own-sized _ _ _ (c .before .before .before .before .before .before .loop .inv .sized), omega (arith, hq, x .holds .most), omega (arith, few, c .before .before .before .before .before .loop-test .taken))
 
+-- src/lib.rt:125:13
 stretch-end-requires : tie.Need-stretch-end-requires Inv-loop μ-loop
 stretch-end-requires c κs =
-    let c10 = c .before .before .before .before .before .before .before .before .before .before in
-    let c13 = c10 .before .before .before in
-    let c18 = c13 .before .before .before .before .before in
-    let (x, hq) = c18 .pre in
-    list-few x hq (c13 .begin .ensures)
+    let (x, hq) = c .before .before .before .before .before .before .before .before .before .before .before .before .before .before .before .before .before .before .pre in
+    list-few x hq (c .before .before .before .before .before .before .before .before .before .before .before .before .before .begin .ensures)
 
+-- src/lib.rt:126:9
 put-rows-requires : tie.Need-put-rows-requires Inv-loop μ-loop
 put-rows-requires c κs =
-    let c3 = c .before .before .before in
-    let c9 = c3 .before .before .before .before .before .before in
-    let c16 = c9 .before .before .before .before .before .before .before in
-    let c21 = c16 .before .before .before .before .before in
-    let (x, hq) = c21 .pre in
-    let l = rw (c9 .before .before .index2 .ensures .0) at (c9 .loop-test .taken) in
-    let to = rw (c9 .before .before .index2 .ensures .0) at (c .before .before .stretch-end .ensures) in
-    rw to (room-along x hq (c16 .begin .ensures) (c9 .before .loop .inv) l (c3 .walk-on .ensures))
+    let (x, hq) = c .before .before .before .before .before .before .before .before .before .before .before .before .before .before .before .before .before .before .before .before .before .pre in
+    let last = c .before .before .before .before .before .before .before .before .before .before .before .index2 .ensures .0 in
+    let l = rw last at (c .before .before .before .before .before .before .before .before .before .loop-test .taken) in
+    let to = rw last at (c .before .before .stretch-end .ensures) in
+    let (m, w) = c .before .before .before .exhaust .ensures in
+    rw to (room-own _ m (room-along x hq (c .before .before .before .before .before .before .before .before .before .before .before .before .before .before .before .before .begin .ensures) (c .before .before .before .before .before .before .before .before .before .before .loop .inv) l w))
 
-same-length : tie.Need-same-length Inv-loop μ-loop
-same-length c =
-    let c3 = c .before .before .before in
-    let c14 = c3 .before .before .before .before .before .before .before .before .before .before .before in
-    c3 .put-rows .ensures .same-length ∙ c14 .loop .inv .same-length
+-- src/lib.rt:128:24
+sub-done : tie.Need-sub-done Inv-loop μ-loop
+sub-done c =
+    omega (arith, c .before .before .before .before .before .before .before .before .before .before .before .before .before .loop-test .taken)
 
-returns : tie.Need-returns Inv-loop μ-loop
-returns c =
-    let c3 = c .before .before .before in
-    let c6 = c3 .before .before .before in
-    let c13 = c6 .before .before .before .before .before .before .before in
-    let c15 = c13 .before .before in
-    let c20 = c15 .before .before .before .before .before in
-    let c25 = c20 .before .before .before .before .before in
-    let (x, hq) = c25 .pre in
-    let l = rw (c15 .index2 .ensures .0) at (c13 .loop-test .taken) in
-    let to = rw (c15 .index2 .ensures .0) at (c6 .stretch-end .ensures) in
-    let rows = rw to at (c3 .put-rows .ensures) in
-    let all = rw (to, c15 .index2 .ensures .0) at (c .if1 .taken) in
-    kept-last x hq (c20 .begin .ensures) (c13 .before .loop .inv) l (c6 .before .walk-on .ensures) rows all
-
-mul-release : tie.Need-mul-release Inv-loop μ-loop
-mul-release c =
-    let c7 = c .before .before .before .before .before .before .before in
-    let c14 = c7 .before .before .before .before .before .before .before in
-    let (x, hq) = c14 .before .before .before .before .before .before .before .before .before .before .before .pre in
-    record { fits = omega (arith, own-few (c14 .loop .inv) (omega (arith, hq, x .holds .most))) }
-
-element-copy-out-release : tie.Need-element-copy-out-release Inv-loop μ-loop
-element-copy-out-release c =
-    let c6 = c .before .before .before .before .before .before in
-    let c13 = c6 .before .before .before .before .before .before .before in
-    let c15 = c13 .before .before in
-    let c20 = c15 .before .before .before .before .before in
-    let c25 = c20 .before .before .before .before .before in
-    let (x, hq) = c25 .pre in
-    let begun = c20 .begin .ensures in
-    let l = rw (c15 .index2 .ensures .0) at (c13 .loop-test .taken) in
-    let to = rw (c15 .index2 .ensures .0) at (c6 .stretch-end .ensures) in
-    let left = rw (to, c15 .index2 .ensures .0) at (c .if1 .left) in
-    omega (arith, to-own x hq begun (c13 .before .loop .inv) l left, list-few x hq begun .1)
-
-release-requires : tie.Need-release-requires Inv-loop μ-loop
-release-requires c κs = search needs
-
+-- src/lib.rt:128:23
 cast-done : tie.Need-cast-done Inv-loop μ-loop
 cast-done c = search needs
 
+-- src/lib.rt:128:13
 mul-done : tie.Need-mul-done Inv-loop μ-loop
 mul-done c =
-    let c10 = c .before .before .before .before .before .before .before .before .before .before in
-    let c20 = c10 .before .before .before .before .before .before .before .before .before .before in
-    let (x, hq) = c20 .before .before .before .before .before .before .before .before .before .pre in
+    let (x, hq) = c .before .before .before .before .before .before .before .before .before .before .before .before .before .before .before .before .before .before .before .before .before .before .before .before .before .pre in
     record { fits = omega (arith, hq, x .holds .most) }
 
+-- src/lib.rt:128:13
 array-write-done : tie.Need-array-write-done Inv-loop μ-loop
 array-write-done c =
-    let c10 = c .before .before .before .before .before .before .before .before .before .before in
-    let c20 = c10 .before .before .before .before .before .before .before .before .before .before in
-    let (x, hq) = c20 .before .before .before .before .before .before .before .before .before .pre in
+    let (x, hq) = c .before .before .before .before .before .before .before .before .before .before .before .before .before .before .before .before .before .before .before .before .before .before .before .before .before .pre in
     omega (arith, hq, x .holds .most)
 
+-- src/lib.rt:129:13
+same-length : tie.Need-same-length Inv-loop μ-loop
+same-length c =
+    c .before .before .before .put-rows .ensures .same-length ∙ c .before .before .before .before .before .before .before .before .before .before .before .before .before .before .loop .inv .same-length
+
+-- src/lib.rt:129:13
+returns : tie.Need-returns Inv-loop μ-loop
+returns c =
+    let (x, hq) = c .before .before .before .before .before .before .before .before .before .before .before .before .before .before .before .before .before .before .before .before .before .before .before .before .before .pre in
+    let last = c .before .before .before .before .before .before .before .before .before .before .before .before .before .before .before .index2 .ensures .0 in
+    let l = rw last at (c .before .before .before .before .before .before .before .before .before .before .before .before .before .loop-test .taken) in
+    let to = rw last at (c .before .before .before .before .before .before .stretch-end .ensures) in
+    let (m, w) = c .before .before .before .before .before .before .before .exhaust .ensures in
+    let rows = along-own _ m (rw to at (c .before .before .before .put-rows .ensures)) in
+    let all = rw (to, last) at (c .if1 .taken) in
+    kept-last x hq (c .before .before .before .before .before .before .before .before .before .before .before .before .before .before .before .before .before .before .before .before .begin .ensures) (c .before .before .before .before .before .before .before .before .before .before .before .before .before .before .loop .inv) l w rows all
+
+-- src/lib.rt:131:31
+mul-release : tie.Need-mul-release Inv-loop μ-loop
+mul-release c =
+    let (x, hq) = c .before .before .before .before .before .before .before .before .before .before .before .before .before .before .before .before .before .before .before .before .before .before .before .before .before .pre in
+    record { fits = omega (arith, own-few (c .before .before .before .before .before .before .before .before .before .before .before .before .before .before .loop .inv) (omega (arith, hq, x .holds .most))) }
+
+-- src/lib.rt:131:31
+element-copy-out-release : tie.Need-element-copy-out-release Inv-loop μ-loop
+element-copy-out-release c =
+    let (x, hq) = c .before .before .before .before .before .before .before .before .before .before .before .before .before .before .before .before .before .before .before .before .before .before .before .before .before .pre in
+    let begun = c .before .before .before .before .before .before .before .before .before .before .before .before .before .before .before .before .before .before .before .before .begin .ensures in
+    let last = c .before .before .before .before .before .before .before .before .before .before .before .before .before .before .before .index2 .ensures .0 in
+    let l = rw last at (c .before .before .before .before .before .before .before .before .before .before .before .before .before .loop-test .taken) in
+    let to = rw last at (c .before .before .before .before .before .before .stretch-end .ensures) in
+    let left = rw (to, last) at (c .if1 .left) in
+    omega (arith, to-own x hq begun (c .before .before .before .before .before .before .before .before .before .before .before .before .before .before .loop .inv) l left, list-few x hq begun .1)
+
+-- src/lib.rt:131:9
+release-requires : tie.Need-release-requires Inv-loop μ-loop
+release-requires c κs = search needs
+
+-- src/lib.rt:132:9
 add-own : tie.Need-add-own Inv-loop μ-loop
 add-own c =
-    let c10 = c .before .before .before .before .before .before .before .before .before .before in
-    let c18 = c10 .before .before .before .before .before .before .before .before in
-    let (x, hq) = c18 .before .before .before .before .before .before .before .before .before .before .before .pre in
-    record { fits = omega (arith, own-few (c18 .loop .inv) (omega (arith, hq, x .holds .most))) }
+    let (x, hq) = c .before .before .before .before .before .before .before .before .before .before .before .before .before .before .before .before .before .before .before .before .before .before .before .before .before .before .before .before .before .pre in
+    record { fits = omega (arith, own-few (c .before .before .before .before .before .before .before .before .before .before .before .before .before .before .before .before .before .before .loop .inv) (omega (arith, hq, x .holds .most))) }
 
+-- src/lib.rt:112:5
 loop-less : tie.Need-loop-less Inv-loop μ-loop
 loop-less c =
-    let c10 = c .before .before .before .before .before .before .before .before .before .before in
-    let c17 = c10 .before .before .before .before .before .before .before in
-    let c24 = c17 .before .before .before .before .before .before .before in
-    let c29 = c24 .before .before .before .before .before in
-    let (x, hq) = c29 .pre in
-    let l = rw (c17 .before .before .index2 .ensures .0) at (c17 .loop-test .taken) in
-    let to = rw (c17 .before .before .index2 .ensures .0) at (c10 .stretch-end .ensures) in
-    let more = to-upto x hq (c24 .begin .ensures) (c17 .before .loop .inv) l .0 in
-    omega (arith, to, more, c17 .loop-test .taken)
+    let (x, hq) = c .before .before .before .before .before .before .before .before .before .before .before .before .before .before .before .before .before .before .before .before .before .before .before .before .before .before .before .before .before .pre in
+    let last = c .before .before .before .before .before .before .before .before .before .before .before .before .before .before .before .before .before .before .before .index2 .ensures .0 in
+    let l = rw last at (c .before .before .before .before .before .before .before .before .before .before .before .before .before .before .before .before .before .loop-test .taken) in
+    let to = rw last at (c .before .before .before .before .before .before .before .before .before .before .stretch-end .ensures) in
+    let more = to-upto x hq (c .before .before .before .before .before .before .before .before .before .before .before .before .before .before .before .before .before .before .before .before .before .before .before .before .begin .ensures) (c .before .before .before .before .before .before .before .before .before .before .before .before .before .before .before .before .before .before .loop .inv) l .0 in
+    omega (arith, to, more, c .before .before .before .before .before .before .before .before .before .before .before .before .before .before .before .before .before .loop-test .taken)
 
+-- src/lib.rt:112:5
 loop-again : tie.Need-loop-again Inv-loop μ-loop
 loop-again c =
-    let c4 = c .before .before .before .before in
-    let c7 = c4 .before .before .before in
-    let c10 = c7 .before .before .before in
-    let c17 = c10 .before .before .before .before .before .before .before in
-    let c19 = c17 .before .before in
-    let c24 = c19 .before .before .before .before .before in
-    let c29 = c24 .before .before .before .before .before in
-    let (x, hq) = c29 .pre in
-    let l = rw (c19 .index2 .ensures .0) at (c17 .loop-test .taken) in
-    let to = rw (c19 .index2 .ensures .0) at (c10 .stretch-end .ensures) in
-    let rows = rw to at (c7 .put-rows .ensures) in
-    let left = rw (to, c19 .index2 .ensures .0) at (c4 .if1 .left) in
+    let (x, hq) = c .before .before .before .before .before .before .before .before .before .before .before .before .before .before .before .before .before .before .before .before .before .before .before .before .before .before .before .before .before .pre in
+    let last = c .before .before .before .before .before .before .before .before .before .before .before .before .before .before .before .before .before .before .before .index2 .ensures .0 in
+    let l = rw last at (c .before .before .before .before .before .before .before .before .before .before .before .before .before .before .before .before .before .loop-test .taken) in
+    let to = rw last at (c .before .before .before .before .before .before .before .before .before .before .stretch-end .ensures) in
+    let (m, w) = c .before .before .before .before .before .before .before .before .before .before .before .exhaust .ensures in
+    let rows = along-own _ m (rw to at (c .before .before .before .before .before .before .before .put-rows .ensures)) in
+    let left = rw (to, last) at (c .before .before .before .before .if1 .left) in
     let (freed, posted, cleared) = c .release .ensures in
-    rw (freed, posted, cleared, to)
-    (kept-next x hq (c24 .begin .ensures) (c17 .before .loop .inv) l (c10 .before .walk-on .ensures) rows left)
+    let next = kept-next x hq (c .before .before .before .before .before .before .before .before .before .before .before .before .before .before .before .before .before .before .before .before .before .before .before .before .begin .ensures) (c .before .before .before .before .before .before .before .before .before .before .before .before .before .before .before .before .before .before .loop .inv) l w rows left in
+    rw (freed, posted, cleared, to) (rw (set-set {A = ℕ} _ _ m _) at next)
 
+-- src/lib.rt:87:1
 same-length-2 : tie.Need-same-length-2 Inv-loop μ-loop
 same-length-2 c = c .before .loop .inv .same-length
 
+-- src/lib.rt:87:1
 returns-2 : tie.Need-returns-2 Inv-loop μ-loop
 returns-2 c =
-    let c7 = c .before .before .before .before .before .before .before in
-    let c12 = c7 .before .before .before .before .before in
-    let (x, hq) = c12 .pre in
+    let (x, hq) = c .before .before .before .before .before .before .before .before .before .before .before .before .pre in
     let none = rw (c .before .before .index2 .ensures .0) at (c .loop-test .left) in
-    kept-end x hq (c7 .begin .ensures) (c .before .loop .inv) none
+    kept-end x hq (c .before .before .before .before .before .before .before .begin .ensures) (c .before .loop .inv) none
 
 pub fill-worker-spec : {M : Type 1} → statement M
 fill-worker-spec =
@@ -229,17 +231,18 @@ fill-worker-spec =
     array-read-index
     index-requires-2
     loop-holds
-    walk-on-requires
+    exhaust-requires
     stretch-end-requires
     put-rows-requires
+    sub-done
+    cast-done
+    mul-done
+    array-write-done
     same-length
     returns
     mul-release
     element-copy-out-release
     release-requires
-    cast-done
-    mul-done
-    array-write-done
     add-own
     loop-less
     loop-again

@@ -1,5 +1,5 @@
 use borrow.Author.Needs.{needs}
-use Rattle.table_rows.proofs.Stretch.{along-start, along-own, along-room, along-next}
+use Rattle.table_rows.proofs.Stretch.{along-start, along-room, along-next}
 use Rattle.table_rows.specs.Filling.{RowsAlong}
 use Prim.Native.Nat.{_-_, _<_, _≤_}
 use native.Mathlib.Omega.{arith}
@@ -12,105 +12,79 @@ use Rattle.basics.proofs.index.Reads as index-reads
 use Rattle.table_rows.proofs.put_row.Reads as put-row-reads
 
 abbrev Inv-loop : tie.InvT-loop
-Inv-loop p order starts q from to done table₀ first m₀ table m =     (from ≤ m) × (m ≤ to) × RowsAlong order starts p q from m done table₀ done table
+Inv-loop p order starts q from to done table₀ first m₀ table m =     (from ≤ m) × (m ≤ to) × RowsAlong order starts p q from m done table₀ table
 
 abbrev μ-loop : tie.MeasureT-loop
 μ-loop p order starts q from to done table₀ first m₀ table m = to - m
 
--- src/lib.rt:39:31
+-- src/lib.rt:40:31
 mul-index : tie.Need-mul-index Inv-loop μ-loop
 mul-index c = search needs
 
--- src/lib.rt:39:31
+-- src/lib.rt:40:31
 element-copy-out-index : tie.Need-element-copy-out-index Inv-loop μ-loop
 element-copy-out-index c = search needs
 
--- src/lib.rt:39:9
+-- src/lib.rt:40:9
 index-requires : tie.Need-index-requires Inv-loop μ-loop
 index-requires c κs = search needs
 
--- src/lib.rt:41:5
+-- src/lib.rt:42:5
 loop-holds : tie.Need-loop-holds Inv-loop μ-loop
 loop-holds c = (omega arith, c .before .before .before .pre .up, along-start _ _ _ _ _ _ _)
 
--- src/lib.rt:42:46
+-- src/lib.rt:43:46
 add-index : tie.Need-add-index Inv-loop μ-loop
 add-index c = search needs
 
--- src/lib.rt:42:40
+-- src/lib.rt:43:40
 mul-index-2 : tie.Need-mul-index-2 Inv-loop μ-loop
 mul-index-2 c = search needs
 
--- src/lib.rt:42:40
+-- src/lib.rt:43:40
 element-copy-out-index-2 : tie.Need-element-copy-out-index-2 Inv-loop μ-loop
 element-copy-out-index-2 c = search needs
 
--- src/lib.rt:42:26
+-- src/lib.rt:43:26
 index-requires-2 : tie.Need-index-requires-2 Inv-loop μ-loop
 index-requires-2 c κs = search needs
 
--- src/lib.rt:42:62
+-- src/lib.rt:43:62
 cast-put-row : tie.Need-cast-put-row Inv-loop μ-loop
 cast-put-row c = search needs
 
--- src/lib.rt:42:9
+-- src/lib.rt:43:9
 put-row-requires : tie.Need-put-row-requires Inv-loop μ-loop
 put-row-requires c κs =
-    let (h, k, s) = c .before .before .before .before .before .loop .inv in
-    (rw (c .before .index2 .ensures .0, c .before .before .before .before .before .before .index .ensures .0) (along-room (c .before .before .before .before .before .before .before .before .before .pre) s h (c .before .before .before .before .loop-test .taken)), c .before .before .before .before .before .before .before .before .before .pre .known)
+    let (h, k, s) = c .before .before .before .before .loop .inv in
+    let room = along-room (c .before .before .before .before .before .before .before .before .pre) s h (c .before .before .before .loop-test .taken) in
+    (rw (c .before .index2 .ensures .0, c .before .before .before .before .before .index .ensures .0) room, c .before .before .before .before .before .before .before .before .pre .known)
 
--- src/lib.rt:43:9
+-- src/lib.rt:44:9
 add-m : tie.Need-add-m Inv-loop μ-loop
 add-m c = search needs
 
--- src/lib.rt:41:5
+-- src/lib.rt:42:5
 loop-less : tie.Need-loop-less Inv-loop μ-loop
 loop-less c = search needs
 
--- src/lib.rt:41:5
+-- src/lib.rt:42:5
 loop-again : tie.Need-loop-again Inv-loop μ-loop
 loop-again c =
-    let (h, k, s) = c .before .before .before .before .before .before .before .before .loop .inv in
-    let l = c .before .before .before .before .before .before .before .loop-test .taken in
-    let row = rw (c .before .before .before .before .index2 .ensures .0, c .before .before .before .before .before .before .before .before .before .index .ensures .0) at (c .before .before .put-row .ensures) in
-    (omega (arith, h), omega (arith, l), along-next (c .before .before .before .before .before .before .before .before .before .before .before .before .pre) s h l row)
+    let (h, k, s) = c .before .before .before .before .before .before .before .loop .inv in
+    let l = c .before .before .before .before .before .before .loop-test .taken in
+    let row = rw (c .before .before .before .before .index2 .ensures .0, c .before .before .before .before .before .before .before .before .index .ensures .0) at (c .before .before .put-row .ensures) in
+    (omega (arith, h), omega (arith, l), along-next (c .before .before .before .before .before .before .before .before .before .before .before .pre) s h l row)
 
--- src/lib.rt:46:20
-sub-done : tie.Need-sub-done Inv-loop μ-loop
-sub-done c = search needs
-
--- src/lib.rt:46:19
-cast-done : tie.Need-cast-done Inv-loop μ-loop
-cast-done c = search needs
-
--- src/lib.rt:46:9
-mul-done : tie.Need-mul-done Inv-loop μ-loop
-mul-done c = search needs
-
--- src/lib.rt:46:9
-element-write-done : tie.Need-element-write-done Inv-loop μ-loop
-element-write-done c = search needs
-
--- src/lib.rt:25:1
+-- src/lib.rt:26:1
 same-length : tie.Need-same-length Inv-loop μ-loop
-same-length c = c .before .before .loop .inv .2 .same-length
+same-length c = c .before .loop .inv .2 .same-length
 
--- src/lib.rt:25:1
+-- src/lib.rt:26:1
 returns : tie.Need-returns Inv-loop μ-loop
 returns c =
-    let (h, k, s) = c .before .before .loop .inv in
-    let e : c .before .before .loop .m ≡ c .before .before .before .before .before .before .args .to = omega (arith, k, c .before .loop-test .left) in
-    along-own _ (rw e at s) (omega (arith, c .before .before .before .before .before .before .pre .own, c .before .before .before .before .before .before .pre .counters))
-
--- src/lib.rt:25:1
-same-length-2 : tie.Need-same-length-2 Inv-loop μ-loop
-same-length-2 c = c .before .before .loop .inv .2 .same-length
-
--- src/lib.rt:25:1
-returns-2 : tie.Need-returns-2 Inv-loop μ-loop
-returns-2 c =
-    let (h, k, s) = c .before .before .loop .inv in
-    let e : c .before .before .loop .m ≡ c .before .before .before .before .before .before .args .to = omega (arith, k, c .before .loop-test .left) in
+    let (h, k, s) = c .before .loop .inv in
+    let e : c .before .loop .m ≡ c .before .before .before .before .before .args .to = omega (arith, k, c .loop-test .left) in
     rw e at s
 
 pub put-rows-spec : {M : Type 1} → statement M
@@ -132,11 +106,5 @@ put-rows-spec =
     add-m
     loop-less
     loop-again
-    sub-done
-    cast-done
-    mul-done
-    element-write-done
     same-length
-    returns
-    same-length-2
-    returns-2)
+    returns)
