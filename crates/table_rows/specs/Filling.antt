@@ -73,7 +73,3 @@ pub record RowsAlong (order starts : List ℕ) (p q i j : ℕ) (counts before no
   pub rows : (t : Trace) (n : ℕ) → Places t n order starts → t .workers ≡ p → q < p → RowsOf t q i j counts
       → (old : List ℕ) → RowsTo t starts (getD starts q 0 + i) old before
       → RowsTo t starts (getD starts q 0 + j) old now
-
--- behind the step of entry `own`; where the list has ended, behind the last operation
-abbrev pub stretchEnd : List ℕ → ℕ → ℕ → ℕ → ℕ
-stretchEnd list end last own = cond (ltb own end) (ahead (getD list own 0) + 1) last

@@ -8,7 +8,8 @@ ghost use Rattle.index.specs.Steps.{Handed};
 ghost use Rattle.walk.specs.Going.{Sized, Walked};
 ghost use Rattle.accept.specs.Acceptance.{AcceptedTrace};
 ghost use Rattle.lent.specs.Written.{writtenOver};
-ghost use Rattle.table_rows.specs.Filling.{RoomAt, RoomAlong, Fillable, rowPut, RowsAlong, FillsPart, stretchEnd};
+ghost use Rattle.table_rows.specs.Filling.{RoomAt, RoomAlong, Fillable, rowPut, RowsAlong, FillsPart};
+ghost use Rattle.table_rows.specs.Passing.{PassesOwn};
 ghost use Rattle.table_rows.specs.Rows.{orderTable};
 
 // Writes the row of operation k, worker q's with `own` earlier ones, to its part of the table.
@@ -45,16 +46,45 @@ fn put_rows(
     }
 }
 
-// Up to where the rows of worker q's operations, of which it has `last`, differ in its own count alone: with the step
-// of entry `own` of its list; where the list has ended, with the last of them.
-fn stretch_end(list: &[u32; 1024], ends: &[u16; 16], q: usize, own: usize, last: usize) -> usize
-    requires { ⌜ (q < 16) × (getD (now ends) q 0 ≤ 1024) ⌝ }
-    ensures { λ r. ⌜ r ≡ stretchEnd (now (list .entry)) (getD (now (ends .entry)) q 0) last own ⌝ }
+// Which entry of a worker's list is next, how many of its operations are done, and whom the last of them has freed.
+struct Passed {
+    at: usize,
+    to: usize,
+    freed: u16,
+}
+
+// Takes a worker's steps, from entry `own` of its list on, up to one that frees somebody; where none does, the worker
+// is at its end, with `last` operations.
+fn pass_own(
+    list: &[u32; 1024],
+    own: usize,
+    end: usize,
+    last: usize,
+    events: &mut [u64; 4],
+    waiting: &mut [u16; 256],
+) -> Passed
+    requires { ⌜ (own ≤ «end») × («end» ≤ 1024) × (length (now events) ≡ 4) × (length (now waiting) ≡ 256) ⌝ }
+    ensures { λ r. ⌜ ((q : ℕ) → PassesOwn (now (list .entry)) q own «end» last (now (events .entry))
+        (now (waiting .entry)) (now (events .exit)) (now (waiting .exit)) (r .at) (r .to) (r .freed)) ⌝ }
 {
-    if own < basics::index(ends[q]) {
-        return basics::wide_index(list[own]) / 65536 + 1;
+    let mut at = own;
+    while at < end {
+        let x = list[at];
+        let freed = walk::release(x % 256, events, waiting);
+        at += 1;
+        if freed != 0 {
+            return Passed {
+                at: at,
+                to: basics::wide_index(x) / 65536 + 1,
+                freed: freed,
+            };
+        }
     }
-    last
+    Passed {
+        at: at,
+        to: last,
+        freed: 0,
+    }
 }
 
 // Goes on with the walk until nobody is ready. Worker q, which is neither ready nor waits, has done `from` operations:
@@ -82,8 +112,9 @@ fn exhaust(
     }
 }
 
-// Writes the rows of worker q's operations. The walk without one of them is kept: behind a step of the worker, which
-// may free others, the walk without the next operation goes on from there. The worker's last operation is never added.
+// Writes the rows of worker q's operations. The walk without one of them is kept: behind a step of the worker that
+// frees somebody, the walk without the next operation goes on from there; up to such a step the rows differ in the own
+// count alone. The worker's last operation is never added.
 fn fill_worker(
     file: &[u8],
     p: usize,
@@ -107,6 +138,7 @@ fn fill_worker(
     courses::begin(starts, &mut nexts, &mut lasts);
     let mut ready = masks::without(masks::below(p as u32), q as u32);
     let mut own = basics::index(starts[q]);
+    let end = basics::index(ends[q]);
     let last = basics::index(lasts[q]);
     let mut from: usize = 0;
     while from < last {
@@ -122,14 +154,15 @@ fn fill_worker(
             &mut events,
             &mut waiting,
         );
-        let to = stretch_end(list, ends, q, own, last);
+        let s = pass_own(list, own, end, last, &mut events, &mut waiting);
+        let to = s.to;
         put_rows(p, order, starts, q, from, to, &done, table);
         if last <= to {
             done[q] = (last - 1) as u16;
             return;
         }
-        ready = walk::release(list[own] % 256, &mut events, &mut waiting);
-        own += 1;
+        ready = s.freed;
+        own = s.at;
         from = to;
     }
 }
