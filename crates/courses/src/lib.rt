@@ -182,12 +182,30 @@ pub fn walk_twice(
     copy_ends(ends, &mut stops);
     cut(list, starts, q, rank, &mut stops, &mut lasts);
     let all = masks::below(p as u32);
-    walk::walk_on(list, &stops, &lasts, all, &mut nexts, &mut done, &mut events, &mut waiting);
+    walk::walk_on(
+        list,
+        &stops,
+        &lasts,
+        all,
+        &mut nexts,
+        &mut done,
+        &mut events,
+        &mut waiting,
+    );
     let held = done;
     stops[q] = ends[q];
     lasts[q] = starts[q + 1] - starts[q];
     let own = masks::with(0, q as u32);
-    walk::walk_on(list, &stops, &lasts, own, &mut nexts, &mut done, &mut events, &mut waiting);
+    walk::walk_on(
+        list,
+        &stops,
+        &lasts,
+        own,
+        &mut nexts,
+        &mut done,
+        &mut events,
+        &mut waiting,
+    );
     Twice {
         held: held,
         whole: done,

@@ -106,7 +106,13 @@ pub fn must_precede(
 }
 
 // How many of its worker's operations come before operation k.
-pub fn rank_of(file: &[u8], operations: u32, order: &[u16; 1024], starts: &[u16; 17], k: usize) -> u16
+pub fn rank_of(
+    file: &[u8],
+    operations: u32,
+    order: &[u16; 1024],
+    starts: &[u16; 17],
+    k: usize,
+) -> u16
     requires { ⌜ Operations (now file) operations (now order) (now starts) × (k < operations) ⌝ }
     ensures { λ r. ⌜ r ≡ earlier (workerOf (traceOf (now (file .entry)))) k ⌝ }
 {
@@ -227,7 +233,17 @@ pub fn pair_order(file: &[u8], a: u32, b: u32) -> OrderAnswer
         ReadAnswer::Read {
             workers,
             operations,
-        } => order_if_pair(file, workers, operations, &order, &starts, &list, &ends, a, b),
+        } => order_if_pair(
+            file,
+            workers,
+            operations,
+            &order,
+            &starts,
+            &list,
+            &ends,
+            a,
+            b,
+        ),
         ReadAnswer::Refused { number, place } => OrderAnswer::Refused {
             number: number,
             place: place,

@@ -29,14 +29,14 @@ pub record Written (t : Trace) (a : ℕ) (base list ends lasts nexts counts even
 
 -- for some trace of at most 1,024 operations, whose index this is
 pub record Writing (order starts list ends lasts nexts counts events waiting : List ℕ) (ready at : ℕ) (run : List ℕ)
-  : Type 0 where
-    pub trace : Trace
-    pub count : ℕ
-    pub few : count ≤ 1024
-    pub places : Places trace count order starts
-    pub out : ℕ
-    pub base : List ℕ
-    pub written : Written trace out base list ends lasts nexts counts events waiting ready at run
+    : Type 0 where
+  pub trace : Trace
+  pub count : ℕ
+  pub few : count ≤ 1024
+  pub places : Places trace count order starts
+  pub out : ℕ
+  pub base : List ℕ
+  pub written : Written trace out base list ends lasts nexts counts events waiting ready at run
 
 -- for some trace of p workers and at most 1,024 operations, whose index this is: worker q's operation of this rank is
 -- left out first

@@ -61,7 +61,18 @@ fn write_walk(
         let q = masks::lowest(ready);
         let w = q as usize;
         let before = basics::index(done[w]);
-        ready = walk::turn(list, ends, lasts, true, ready, q, nexts, done, events, waiting);
+        ready = walk::turn(
+            list,
+            ends,
+            lasts,
+            true,
+            ready,
+            q,
+            nexts,
+            done,
+            events,
+            waiting,
+        );
         let more = basics::index(done[w]) - before;
         copy(order, basics::index(starts[w]) + before, more, run, at);
         at += more;
@@ -100,14 +111,36 @@ pub fn write_run(
     courses::cut(list, starts, q, rank, &mut stops, &mut lasts);
     let all = masks::below(p as u32);
     let at = write_walk(
-        order, starts, list, &stops, &lasts, all, &mut nexts, &mut done, &mut events, &mut waiting, 0, run,
+        order,
+        starts,
+        list,
+        &stops,
+        &lasts,
+        all,
+        &mut nexts,
+        &mut done,
+        &mut events,
+        &mut waiting,
+        0,
+        run,
     );
     let held = done;
     stops[q] = ends[q];
     lasts[q] = starts[q + 1] - starts[q];
     let own = masks::with(0, q as u32);
     write_walk(
-        order, starts, list, &stops, &lasts, own, &mut nexts, &mut done, &mut events, &mut waiting, at, run,
+        order,
+        starts,
+        list,
+        &stops,
+        &lasts,
+        own,
+        &mut nexts,
+        &mut done,
+        &mut events,
+        &mut waiting,
+        at,
+        run,
     );
     Ends {
         held: held,

@@ -47,13 +47,13 @@ pub record OwnPassed (t : Trace) (list ends lasts nexts counts : List ℕ) (q i 
 
 -- so in whatever trace
 pub record PassesOwn (list : List ℕ) (q own end last : ℕ) (events waiting events′ waiting′ : List ℕ) (at to freed : ℕ)
-  : Type 0 where
-    pub inside : at ≤ end
-    pub words : length events′ ≡ 4
-    pub room : length waiting′ ≡ 256
-    pub passed : (t : Trace) (ends lasts nexts counts : List ℕ) (i : ℕ) → getD ends q 0 ≡ end → getD lasts q 0 ≡ last
-        → Own t list ends lasts nexts counts q own i events waiting
-        → OwnPassed t list ends lasts nexts counts q i at to events′ waiting′ freed
+    : Type 0 where
+  pub inside : at ≤ end
+  pub words : length events′ ≡ 4
+  pub room : length waiting′ ≡ 256
+  pub passed : (t : Trace) (ends lasts nexts counts : List ℕ) (i : ℕ) → getD ends q 0 ≡ end → getD lasts q 0 ≡ last
+      → Own t list ends lasts nexts counts q own i events waiting
+      → OwnPassed t list ends lasts nexts counts q i at to events′ waiting′ freed
 
 -- on the way
 pub record PassingOwn (list : List ℕ) (q own end last : ℕ) (events waiting events′ waiting′ : List ℕ) (at : ℕ) : Type 0

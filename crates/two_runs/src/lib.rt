@@ -92,9 +92,26 @@ fn runs_if_unordered(
     let mut other = [0u16; 1024];
     let rank = pair_order::rank_of(file, operations, order, starts, a as usize);
     let q = trace::worker_of(file, a as usize) as usize;
-    let end = run_writer::write_run(workers as usize, order, starts, list, ends, q, rank, &mut other);
+    let end = run_writer::write_run(
+        workers as usize,
+        order,
+        starts,
+        list,
+        ends,
+        q,
+        rank,
+        &mut other,
+    );
     let held = end.held;
-    if pair_order::must_precede(file, operations, order, starts, &held, a as usize, b as usize) {
+    if pair_order::must_precede(
+        file,
+        operations,
+        order,
+        starts,
+        &held,
+        a as usize,
+        b as usize,
+    ) {
         return RunsAnswer::Refused {
             number: 14,
             place: 0,
@@ -126,7 +143,16 @@ fn runs_between(
     let mut one = [0u16; 1024];
     let rank = pair_order::rank_of(file, operations, order, starts, b as usize);
     let q = trace::worker_of(file, b as usize) as usize;
-    let end = run_writer::write_run(workers as usize, order, starts, list, ends, q, rank, &mut one);
+    let end = run_writer::write_run(
+        workers as usize,
+        order,
+        starts,
+        list,
+        ends,
+        q,
+        rank,
+        &mut one,
+    );
     let held = end.held;
     let whole = end.whole;
     match accept::accept_if_done(file, workers, operations, order, starts, &whole) {
@@ -140,7 +166,20 @@ fn runs_between(
                     place: 0,
                 };
             }
-            runs_if_unordered(file, p, n, order, starts, list, ends, a, b, &one, first, second)
+            runs_if_unordered(
+                file,
+                p,
+                n,
+                order,
+                starts,
+                list,
+                ends,
+                a,
+                b,
+                &one,
+                first,
+                second,
+            )
         }
         AcceptAnswer::Refused { number, place } => RunsAnswer::Refused {
             number: number,
@@ -168,7 +207,19 @@ fn runs_if_pair(
         (now (first .exit)) (now (second .exit)) ⌝ }
 {
     if pair_order::is_pair(operations, a, b) {
-        return runs_between(file, workers, operations, order, starts, list, ends, a, b, first, second);
+        return runs_between(
+            file,
+            workers,
+            operations,
+            order,
+            starts,
+            list,
+            ends,
+            a,
+            b,
+            first,
+            second,
+        );
     }
     let no = pair_order::refuse(file, workers, operations, order, starts, list, ends, a, b);
     RunsAnswer::Refused {
@@ -191,7 +242,19 @@ pub fn two_runs(file: &[u8], a: u32, b: u32, first: &mut [u16], second: &mut [u1
         ReadAnswer::Read {
             workers,
             operations,
-        } => runs_if_pair(file, workers, operations, &order, &starts, &list, &ends, a, b, first, second),
+        } => runs_if_pair(
+            file,
+            workers,
+            operations,
+            &order,
+            &starts,
+            &list,
+            &ends,
+            a,
+            b,
+            first,
+            second,
+        ),
         ReadAnswer::Refused { number, place } => RunsAnswer::Refused {
             number: number,
             place: place,

@@ -129,29 +129,34 @@ module _ {list : List ℕ} {q below from end last : ℕ} (low : q < 16) where
           (set waiting′ (event (getD list at 0)) 0) (at + 1) (reached list end last (at + 1))
           (bitOr freed (getD waiting′ (event (getD list at 0)) 0))
           × Apart (bitOr freed (getD waiting′ (event (getD list at 0)) 0)) below
-      along-step more = (record {
-        from-on = along-one .from-on;
-        up-to = along-one .up-to;
-        none = along-one .none;
-        released = along-one .released;
-        moved = λ t a r counts e go.
-            let m = along-one .moved t a r counts e go in
-            record {
-              run = gone-plain t a q low r counts (along-one .released .words) (m .on) (m .follows .first) (m .run);
-              follows = follows-here (m .follows) (omega arith) (omega arith);
-              on = omega (arith, m .on, m .follows .first .on);
-            };
-        lowest = λ t a r counts e go y.
-            let m = along-one .moved t a r counts e go in
-            lowest-plain t a q low r counts (along-one .released .words) (m .on) (m .follows .first) (m .run) (after y)
-            (along-one .lowest t a r counts e go y);
-      }, apart)
+      along-step more = (
+        record {
+          from-on = along-one .from-on;
+          up-to = along-one .up-to;
+          none = along-one .none;
+          released = along-one .released;
+          moved = λ t a r counts e go.
+              let m = along-one .moved t a r counts e go in
+              record {
+                run = gone-plain t a q low r counts (along-one .released .words) (m .on) (m .follows .first) (m .run);
+                follows = follows-here (m .follows) (omega arith) (omega arith);
+                on = omega (arith, m .on, m .follows .first .on);
+              };
+          lowest = λ t a r counts e go y.
+              let m = along-one .moved t a r counts e go in
+              lowest-plain t a q low r counts (along-one .released .words) (m .on) (m .follows .first) (m .run) (after y)
+              (along-one .lowest t a r counts e go y);
+        },
+        apart,
+      )
         where
           apart : Apart (bitOr freed (getD waiting′ (event (getD list at 0)) 0)) below
-          apart = record { none = λ p i j. elim (in-either freed (getD waiting′ (event (getD list at 0)) 0) i) [
-            | inl k ↦ clear .none p k j
-            | inr k ↦ more .none p k j
-          ] }
+          apart = record {
+            none = λ p i j. elim (in-either freed (getD waiting′ (event (getD list at 0)) 0) i) [
+              | inl k ↦ clear .none p k j
+              | inr k ↦ more .none p k j
+            ];
+          }
 
           after : {t : Trace} {a : ℕ} {counts : List ℕ} → LowerStopped t a q below counts events waiting
               → (p : ℕ) → p < q → Blocked t a (withPost events′ (event (getD list at 0))) (nextOf t counts p)

@@ -85,23 +85,23 @@ Lowest t a q r counts c =
 -- worker q's way from entry `from` to entry `at`, with c operations done: so in whatever trace its list is right. It lets
 -- the workers in `below` go first
 pub record Along (list : List ℕ) (q below from end last : ℕ) (events waiting events′ waiting′ : List ℕ) (at c freed : ℕ)
-  : Type 0 where
-    pub from-on : from ≤ at
-    pub up-to : at ≤ end
-    pub none : at ≡ from → freed ≡ 0
-    pub released : Released q events waiting events′ waiting′ freed
-    pub moved : (t : Trace) (a : ℕ) (r counts : List ℕ) → EndsRun t a r counts events
-        → Follows t a list q from end last (getD counts q 0) → Moved t a list q end last r counts events′ at c
-    pub lowest : (t : Trace) (a : ℕ) (r counts : List ℕ) → EndsRun t a r counts events
-        → Follows t a list q from end last (getD counts q 0) → LowerStopped t a q below counts events waiting
-        → Lowest t a q r counts c
+    : Type 0 where
+  pub from-on : from ≤ at
+  pub up-to : at ≤ end
+  pub none : at ≡ from → freed ≡ 0
+  pub released : Released q events waiting events′ waiting′ freed
+  pub moved : (t : Trace) (a : ℕ) (r counts : List ℕ) → EndsRun t a r counts events
+      → Follows t a list q from end last (getD counts q 0) → Moved t a list q end last r counts events′ at c
+  pub lowest : (t : Trace) (a : ℕ) (r counts : List ℕ) → EndsRun t a r counts events
+      → Follows t a list q from end last (getD counts q 0) → LowerStopped t a q below counts events waiting
+      → Lowest t a q r counts c
 
 -- and it stops there, or is itself among those freed
 pub record Went (list : List ℕ) (q below from end last : ℕ) (events waiting events′ waiting′ : List ℕ) (at c freed : ℕ)
-  : Type 0 where
-    pub along : Along list q below from end last events waiting events′ waiting′ at c freed
-    pub stopped : (t : Trace) (a : ℕ) → Follows t a list q at end last c
-        → (q isIn freed) ⊎ Stopped t a events′ waiting′ q (operationAt t q c)
+    : Type 0 where
+  pub along : Along list q below from end last events waiting events′ waiting′ at c freed
+  pub stopped : (t : Trace) (a : ℕ) → Follows t a list q at end last c
+      → (q isIn freed) ⊎ Stopped t a events′ waiting′ q (operationAt t q c)
 
 -- ---- turn by turn
 

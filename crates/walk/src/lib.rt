@@ -151,7 +151,16 @@ pub fn turn(
     let w = q as usize;
     let from = basics::index(nexts[w]);
     let end = basics::index(ends[w]);
-    let s = go_on(list, q, goes_before(orderly, q), from, end, lasts[w], events, waiting);
+    let s = go_on(
+        list,
+        q,
+        goes_before(orderly, q),
+        from,
+        end,
+        lasts[w],
+        events,
+        waiting,
+    );
     let at = s.at;
     nexts[w] = at as u16;
     done[w] = s.count;
@@ -177,6 +186,17 @@ pub fn walk_on(
     let mut ready = start;
     while ready != 0 {
         let q = masks::lowest(ready);
-        ready = turn(list, ends, lasts, false, ready, q, nexts, done, events, waiting);
+        ready = turn(
+            list,
+            ends,
+            lasts,
+            false,
+            ready,
+            q,
+            nexts,
+            done,
+            events,
+            waiting,
+        );
     }
 }

@@ -14,7 +14,7 @@ use Rattle.walk.proofs.walk_on.Reads as walk-on-reads
 
 -- src/lib.rt:97:5
 begin-requires : tie.Need-begin-requires
-begin-requires c κs =     (λ q l. c .before .before .pre .1 .each q l .2, refl, refl)
+begin-requires c κs = (λ q l. c .before .before .pre .1 .each q l .2, refl, refl)
 
 -- src/lib.rt:98:28
 cast-below : tie.Need-cast-below

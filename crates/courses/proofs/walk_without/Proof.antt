@@ -15,7 +15,7 @@ use Rattle.walk.proofs.walk_on.Reads as walk-on-reads
 
 -- src/lib.rt:135:5
 begin-requires : tie.Need-begin-requires
-begin-requires c κs =     (λ q l. c .before .before .pre .2 .each q l .2, refl, refl)
+begin-requires c κs = (λ q l. c .before .before .pre .2 .each q l .2, refl, refl)
 
 -- src/lib.rt:136:5
 copy-ends-requires : tie.Need-copy-ends-requires

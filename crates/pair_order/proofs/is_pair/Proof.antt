@@ -9,15 +9,14 @@ use Rattle.pair_order.proofs.is_pair.Lts as lts
 
 -- src/lib.rt:35:13
 returns : tie.Need-returns
-returns c =
-    (
-      λ e. record {
-        first-below = c .before .if1 .taken;
-        second-below = c .if2 .taken;
-        differ = eqb-false _ _ (not-true _ e);
-      },
-      λ e. inr (inr (eqb-true _ _ (not-false _ e))),
-    )
+returns c = (
+  λ e. record {
+    first-below = c .before .if1 .taken;
+    second-below = c .if2 .taken;
+    differ = eqb-false _ _ (not-true _ e);
+  },
+  λ e. inr (inr (eqb-true _ _ (not-false _ e))),
+)
 
 -- src/lib.rt:37:9
 returns-2 : tie.Need-returns-2

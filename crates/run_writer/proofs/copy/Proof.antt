@@ -13,7 +13,7 @@ use Rattle.run_writer.proofs.copy.Reads as reads
 use Rattle.run_writer.proofs.copy.Lts as lts
 
 abbrev Inv-loop : tie.InvT-loop
-Inv-loop order from count run₀ at i₀ run i =     (i ≤ count) × (run ≡ paste run₀ at (drop from order) i) × (length run ≡ 1024)
+Inv-loop order from count run₀ at i₀ run i = (i ≤ count) × (run ≡ paste run₀ at (drop from order) i) × (length run ≡ 1024)
 
 abbrev μ-loop : tie.MeasureT-loop
 μ-loop order from count run₀ at i₀ run i = count - i

@@ -12,7 +12,7 @@ use Rattle.basics.proofs.wide_index.Reads as wide-index-reads
 use Rattle.walk.proofs.release.Reads as release-reads
 
 abbrev Inv-loop : tie.InvT-loop
-Inv-loop list own end last events₀ waiting₀ at₀ events waiting at =     (at ≤ end) × ((q : ℕ) → PassingOwn list q own end last events₀ waiting₀ events waiting at)
+Inv-loop list own end last events₀ waiting₀ at₀ events waiting at = (at ≤ end) × ((q : ℕ) → PassingOwn list q own end last events₀ waiting₀ events waiting at)
 
 abbrev μ-loop : tie.MeasureT-loop
 μ-loop list own end last events₀ waiting₀ at₀ events waiting at = end - at

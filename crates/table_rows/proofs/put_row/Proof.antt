@@ -40,8 +40,7 @@ part-write-row-end c = let room = c .before .pre .0 .table-holds in search needs
 write-row-requires : tie.Need-write-row-requires
 write-row-requires c κs =
     let s = c .before .before in
-    let long = width s in
-    (
+    let long = width s in (
       omega (arith, long, s .pre .0 .workers),
       omega (arith, long, s .pre .0 .counts-hold),
       omega (arith, long, s .pre .1),

@@ -12,7 +12,7 @@ use Rattle.basics.proofs.index.Reads as index-reads
 use Rattle.table_rows.proofs.put_row.Reads as put-row-reads
 
 abbrev Inv-loop : tie.InvT-loop
-Inv-loop p order starts q from to done table₀ first m₀ table m =     (from ≤ m) × (m ≤ to) × RowsAlong order starts p q from m done table₀ table
+Inv-loop p order starts q from to done table₀ first m₀ table m = (from ≤ m) × (m ≤ to) × RowsAlong order starts p q from m done table₀ table
 
 abbrev μ-loop : tie.MeasureT-loop
 μ-loop p order starts q from to done table₀ first m₀ table m = to - m

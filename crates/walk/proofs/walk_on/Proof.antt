@@ -11,7 +11,7 @@ use Rattle.masks.proofs.lowest.Reads as lowest-reads
 use Rattle.walk.proofs.turn.Reads as turn-reads
 
 abbrev Inv-loop : tie.InvT-loop
-Inv-loop list ends lasts start nexts₀ done₀ events₀ waiting₀ ready₀ nexts done events waiting ready =     Walked list ends lasts nexts₀ done₀ events₀ waiting₀ start nexts done events waiting ready
+Inv-loop list ends lasts start nexts₀ done₀ events₀ waiting₀ ready₀ nexts done events waiting ready = Walked list ends lasts nexts₀ done₀ events₀ waiting₀ start nexts done events waiting ready
 
 abbrev μ-loop : tie.MeasureT-loop
 μ-loop list ends lasts start nexts₀ done₀ events₀ waiting₀ ready₀ nexts done events waiting ready = left nexts ready
