@@ -28,7 +28,8 @@ pub fn read_index(
 ) -> ReadAnswer
     requires { ⌜ Spaces (now order) (now starts) (now list) (now ends) ⌝ }
     ensures { λ r. ⌜ (r ≡ answerOf (fileReading (now (file .entry))))
-        × HandedOn (now (file .entry)) (now (order .exit)) (now (starts .exit)) (now (list .exit)) (now (ends .exit)) ⌝ }
+        × HandedOn (now (file .entry)) (now (order .exit)) (now (starts .exit)) (now (list .exit))
+        (now (ends .exit)) ⌝ }
 {
     match reader::read(file) {
         ReadAnswer::Read {
@@ -105,7 +106,8 @@ pub fn accept_index(
 ) -> AcceptAnswer
     requires { ⌜ Spaces (now order) (now starts) (now list) (now ends) ⌝ }
     ensures { λ r. ⌜ (r ≡ acceptAnswer (now (file .entry)))
-        × HandedOn (now (file .entry)) (now (order .exit)) (now (starts .exit)) (now (list .exit)) (now (ends .exit)) ⌝ }
+        × HandedOn (now (file .entry)) (now (order .exit)) (now (starts .exit)) (now (list .exit))
+        (now (ends .exit)) ⌝ }
 {
     match read_index(file, order, starts, list, ends) {
         ReadAnswer::Read {

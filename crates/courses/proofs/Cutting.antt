@@ -47,7 +47,8 @@ module _ (t : Trace) (a b q : ℕ) (new : (j : ℕ) → operationAt t q j < size
       }
 
 -- an operation of another worker is none of q's
-pub apart-other : (t : Trace) (q b : ℕ) → workerOf t b ≢ q → (j : ℕ) → operationAt t q j < size t → operationAt t q j ≢ b
+pub apart-other : (t : Trace) (q b : ℕ) → workerOf t b ≢ q → (j : ℕ) → operationAt t q j < size t
+    → operationAt t q j ≢ b
 apart-other t q b d j l e = d (ap (workerOf t) (sym e) ∙ at-rth t q j l .own)
 
 -- and a list that ends before it ends with the worker's operations
@@ -59,7 +60,8 @@ ends-other t q a d j e = elim (less? (operationAt t q j) (size t)) [
 
 -- ---- the worker's own list
 
-module _ {t : Trace} {list : List ℕ} {q first end last : ℕ} (x : Follows t (size t) list q first end last 0) {a rank s : ℕ}
+module _ {t : Trace} {list : List ℕ} {q first end last : ℕ} (x : Follows t (size t) list q first end last 0)
+    {a rank s : ℕ}
     (here : operationAt t q rank ≡ a) (below : a < size t) (y : Entry list first end rank s) where
   -- a stands at the entry, or before it
   past : rank ≤ reached list end last s

@@ -1,5 +1,5 @@
--- The start of a walk. In order: what the code needs; each worker's list, whole and cut; nothing done; an operation that
--- was left out is let in.
+-- The start of a walk. In order: what the code needs; each worker's list, whole and cut; nothing done; an operation
+-- that was left out is let in.
 use mathlib.Core.List.{List, []}
 use mathlib.Core.Logic.{_⊎_, inl, inr, _≢_}
 use mathlib.Core.Path.{_≡_, refl, sym, ap, _∙_}
@@ -75,7 +75,8 @@ module _ {starts ends nexts lasts stops : List ℕ} (o : Opens starts ends) (b :
           → (getD nexts′ r 0 ≤ getD (set stops′ q (getD ends q 0)) r 0)
           × (getD (set stops′ q (getD ends q 0)) r 0 ≤ 1024)
       each r l (inl e) =
-          let at : getD stops′ q 0 ≡ y .at = rw (y .stops) (getD-set-same stops q (y .at) 0 (omega (arith, low, same .room))) in
+          let at : getD stops′ q 0 ≡ y .at = rw (y .stops)
+          (getD-set-same stops q (y .at) 0 (omega (arith, low, same .room))) in
           rw (e, getD-set-same stops′ q (getD ends q 0) 0 (omega (arith, low, long)))
           (omega (arith, s .each q low .0, at, y .entry .up-to, same .each q low), o .each q low .1)
       each r l (inr n) = rw (getD-set-other stops′ q r (getD ends q 0) 0 n) (s .each r l)
@@ -154,7 +155,8 @@ module _ {t : Trace} {p : ℕ} {starts list ends : List ℕ} {q rank a : ℕ} (x
             (cut-whole (whole .each q low) own-here (x .below) (rw stop-own at (y .entry)) old)
         follows v l (inr n) =
             rw (getD-set-other stops′ q v (getD ends q 0) 0 n, getD-set-other lasts′ q v _ 0 n)
-            (follows-other t a (size t) v (λ j i z. omega (arith, i, z)) (ends-other t v a (others v n) (getD lasts′ v 0))
+            (follows-other t a (size t) v (λ j i z. omega (arith, i, z))
+            (ends-other t v a (others v n) (getD lasts′ v 0))
             (g .follows v l (λ z. omega (arith, z, l))))
 
         awake : (v : ℕ) → Awake waiting ready v → (v < t .workers) × (v ≢ 16)

@@ -1,4 +1,5 @@
--- Where a walk starts: each worker at the start of its list, all of it before it, or up to an operation that is left out.
+-- Where a walk starts: each worker at the start of its list, all of it before it, or up to an operation that is left
+-- out.
 -- Follows: nothing in the documents. A means.
 use mathlib.Core.List.{List}
 use mathlib.Core.Path.{_≡_}

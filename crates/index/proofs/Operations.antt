@@ -1,4 +1,5 @@
--- A worker's operations by how many come before them. In order: where there is one; where there is none; at a lower rank.
+-- A worker's operations by how many come before them. In order: where there is one; where there is none; at a lower
+-- rank.
 use mathlib.Core.Logic.{_⊎_, inl, inr}
 use mathlib.Core.Path.{_≡_, refl}
 use native.Mathlib.Omega.{arith}

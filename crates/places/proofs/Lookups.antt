@@ -1,4 +1,5 @@
--- Operations by the index, step by step. In order: each worker's next one; the lowest of them; how many come before one.
+-- Operations by the index, step by step. In order: each worker's next one; the lowest of them; how many come before
+-- one.
 use mathlib.Core.List.{List}
 use mathlib.Core.Logic.{_⊎_, inl, inr, _≢_}
 use mathlib.Core.Path.{_≡_, refl, sym, ap, _∙_}

@@ -1,5 +1,5 @@
-// Operations by the index: a worker's next one, the lowest that is left, how many come before one. For the crates above,
-// which have read the file and filled its index before.
+// Operations by the index: a worker's next one, the lowest that is left, how many come before one. For the crates
+// above, which have read the file and filled its index before.
 ghost use mathlib.Core.Path.{_≡_};
 ghost use Prim.Native.Nat.{ℕ, _+_, _<_, _≤_};
 ghost use lib.ListN.{getD};

@@ -6,7 +6,8 @@ use mathlib.Core.Path.{_≡_, refl, sym, ap, _∙_}
 use native.Mathlib.Omega.{arith}
 use Prim.Native.Nat.{ℕ, suc, _+_, _-_, _<_, _≤_}
 use lib.ListN.{length, getD, set, take, drop, length-append, length-drop, List·getD-append}
-use lib.Seq.{paste, paste-suc, length-paste, length-paste-head, getD-append-add, getD-take, getD-drop, length-take-le, ext-getD}
+use lib.Seq.{paste, paste-suc, length-paste, length-paste-head, getD-append-add, getD-take, getD-drop, length-take-le}
+use lib.Seq.{ext-getD}
 use Rattle.basics.proofs.Booleans.{less?}
 
 -- ---- one more
@@ -74,7 +75,8 @@ row-whole part done m low high room = ext-getD 0 _ _ (whole ∙ sym long) each
           | inl k ↦
               let z : 0 + j ≡ j = omega arith in
               paste-before half (p - m) (drop (p - m) done) m fits rest j k
-              ∙ (rw z at (paste-in part 0 done m (omega (arith, low)) (omega (arith, low, room)) j (omega (arith, k, high))))
+              ∙ (rw z at (paste-in part 0 done m (omega (arith, low)) (omega (arith, low, room)) j
+              (omega (arith, k, high))))
               ∙ sym (getD-take p done j 0 few)
           | inr k ↦
               let i = j - (p - m) in

@@ -71,7 +71,8 @@ module _ {t : Trace} {p : ℕ} {starts list ends : List ℕ} {q rank b : ℕ} (x
             parts = refl;
             other-than-b = lowest-ends (w .lowest) (going-closed (x .fits) (w .going));
             to-the-end = lowest-ends (lowest-whole {R = rule t} (v .lowest))
-                (rw (done-append [] (w .more) (v .more)) at (closed-whole {R = rule t} (going-closed (x .fits) (v .going))));
+                (rw (done-append [] (w .more) (v .more)) at
+                (closed-whole {R = rule t} (going-closed (x .fits) (v .going))));
           }
 
       held-back : w .more ++ v .more ≡ heldBackRun t b

@@ -30,7 +30,8 @@ use Rattle.states.proofs.Ends.{run-count}
 use Rattle.walk.specs.Going.{Going, stretch, Turned}
 use Rattle.run_writer.specs.Writing.{Written, Writing}
 
-module _ {t : Trace} {n : ℕ} {order starts : List ℕ} (x : Places t n order starts) {q : ℕ} (known : q < t .workers) where
+module _ {t : Trace} {n : ℕ} {order starts : List ℕ} (x : Places t n order starts) {q : ℕ} (known : q < t .workers)
+    where
   low : q < 16
   low = omega (arith, known, x .fits .most)
 
@@ -85,7 +86,8 @@ module _ {t : Trace} {n : ℕ} {order starts : List ℕ} (x : Places t n order s
       → getD counts q 0 ≤ count (workerOf t) q (upTo n)
   count-most {r = r} y =
       let inside : r ⊆ upTo n = record { all = λ m. upTo-in n (rw (← x .count) (y .is-run .below m)) } in
-      omega (arith, run-count (y .is-run) (y .shows) q, different-count (λ z. eqb (workerOf t z) q) (y .is-run .different) inside)
+      omega (arith, run-count (y .is-run) (y .shows) q, different-count (λ z. eqb (workerOf t z) q)
+      (y .is-run .different) inside)
 
 -- ---- one turn more
 
@@ -123,7 +125,8 @@ module _ {t : Trace} {n : ℕ} {order starts : List ℕ} (x : Places t n order s
   is-stretch : stretch t q i j ≡ take (j - i) (drop (getD starts q 0 + i) order)
   is-stretch = stretch-order x known turn-on turn-most
 
-  long : length ((base ++ w .more) ++ stretch t q (getD counts q 0) (getD counts′ q 0)) ≡ at + (getD counts′ q 0 - getD counts q 0)
+  long : length ((base ++ w .more) ++ stretch t q (getD counts q 0) (getD counts′ q 0))
+      ≡ at + (getD counts′ q 0 - getD counts q 0)
   long =
       length-append (base ++ w .more) (stretch t q i j)
       ∙ rw (w .long, is-stretch)
@@ -141,11 +144,13 @@ module _ {t : Trace} {n : ℕ} {order starts : List ℕ} (x : Places t n order s
       record {
         more = w .more ++ stretch t q i j;
         going = rw together (after .0);
-        lowest = lowest-append (w .lowest) (rw (done-append [] base (w .more)) at (u .lowest refl t a 16 (base ++ w .more) (w .going)));
+        lowest = lowest-append (w .lowest) (rw (done-append [] base (w .more)) at
+            (u .lowest refl t a 16 (base ++ w .more) (w .going)));
         sized = u .sized;
         long = rw together long;
         room = length-paste run at part m (omega (arith, turn-room, w .room)) inside ∙ w .room;
-        front = rw together (take-paste run at part m (omega (arith, turn-room, w .room)) inside ∙ rw (w .front, is-stretch));
+        front = rw together (take-paste run at part m (omega (arith, turn-room, w .room)) inside ∙ rw
+            (w .front, is-stretch));
       }
     where
       part : List ℕ

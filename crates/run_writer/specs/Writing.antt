@@ -15,8 +15,8 @@ use Rattle.index.specs.Indexed.{Places}
 use Rattle.walk.specs.Going.{Going, Sized}
 use Rattle.courses.specs.Courses.{Opens, Ended, LeftOut}
 
--- the walk without a has gone on from the run `base`, the lowest-numbered worker first at each step; the run that it has
--- got to stands in the first `at` numbers
+-- the walk without a has gone on from the run `base`, the lowest-numbered worker first at each step; the run that it
+-- has got to stands in the first `at` numbers
 pub record Written (t : Trace) (a : ℕ) (base list ends lasts nexts counts events waiting : List ℕ) (ready at : ℕ)
     (run : List ℕ) : Type 0 where
   pub more : List ℕ

@@ -80,8 +80,8 @@ fn write_walk(
     at
 }
 
-// Writes the run that holds worker q's operation of this rank back: the walk of p workers without it, and from where that
-// ends the walk with nothing left out.
+// Writes the run that holds worker q's operation of this rank back: the walk of p workers without it, and from where
+// that ends the walk with nothing left out.
 pub fn write_run(
     p: usize,
     order: &[u16; 1024],

@@ -1,7 +1,7 @@
 -- "The lowest-numbered worker whose next operation may run" (document 01, "Two runs"). In order: the first in the
--- canonical order that can be added is of that worker; there is one such operation; several steps, and with nothing left
--- out; one step of a walk; the greedy run is the run that lets the lowest-numbered worker go first, and there is one such
--- run.
+-- canonical order that can be added is of that worker; there is one such operation; several steps, and with nothing
+-- left out; one step of a walk; the greedy run is the run that lets the lowest-numbered worker go first, and there is
+-- one such run.
 use mathlib.Core.Path.{_≡_, refl, ap}
 use mathlib.Core.Bool.{Bool, not}
 use mathlib.Core.List.{List, [], _∷_, _++_, List·Memᴰ·head, List·Memᴰ·tail}
@@ -80,7 +80,8 @@ module _ {R : Rule} where
             (not-T (eqb x (R .size)) (λ e. omega (arith, a .below, eqb→eq x (R .size) e)));
       }
 
-  pub lowest-whole : {worker : ℕ → ℕ} {d s : List ℕ} → LowestSteps worker (without R (R .size)) d s → LowestSteps worker R d s
+  pub lowest-whole : {worker : ℕ → ℕ} {d s : List ℕ} → LowestSteps worker (without R (R .size)) d s
+      → LowestSteps worker R d s
   lowest-whole no-step = no-step
   lowest-whole (one-step a p) =
       one-step (record { can = none-addable (a .can); lowest = λ i. a .lowest (addable-none i) }) (lowest-whole p)

@@ -2,8 +2,8 @@
 -- Follows: document 01, "Trace file", "Order table and order", "Two runs", "Tidy file".
 -- Differs: which worker an operation has is any function of its number; report 1084 says process for worker. One
 -- worker's numbers ascend in its program order, since operations are numbered in file order.
--- `InTurn`, `Counted`, `Ascending` and `LowestSteps` are means, joined to the rest by proofs/ProgramOrder, proofs/Counts,
--- proofs/CanonicalOrder and proofs/LowestWorker.
+-- `InTurn`, `Counted`, `Ascending` and `LowestSteps` are means, joined to the rest by proofs/ProgramOrder,
+-- proofs/Counts, proofs/CanonicalOrder and proofs/LowestWorker.
 use mathlib.Core.Path.{_≡_}
 use mathlib.Core.Bool.{Bool, not, _||_, cond}
 use mathlib.Core.List.{List, [], _∷_, _++_}

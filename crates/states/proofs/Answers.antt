@@ -1,5 +1,5 @@
--- What the end of a walk without an operation answers, whichever maximal valid execution the walk took. In order: the row
--- of the operation; which operations it must precede; with nothing left out, question 10's place.
+-- What the end of a walk without an operation answers, whichever maximal valid execution the walk took. In order: the
+-- row of the operation; which operations it must precede; with nothing left out, question 10's place.
 use mathlib.Core.Bool.{not}
 use mathlib.Core.List.{List, []}
 use mathlib.Core.Logic.{_≢_, inl, inr}

@@ -1,5 +1,5 @@
--- The state of a walk shows the operations that are done. In order: at the start; after one operation more; an operation
--- that can be added; one that cannot.
+-- The state of a walk shows the operations that are done. In order: at the start; after one operation more; an
+-- operation that can be added; one that cannot.
 use mathlib.Core.Bool.{Bool, true, false, not, _&&_, _||_}
 use mathlib.Core.List.{List, [], _∷_}
 use mathlib.Core.Logic.{_⊎_, inl, inr, _≢_}
@@ -102,7 +102,8 @@ module _ {t : Trace} {d counts events : List ℕ} (s : Shows t d counts events) 
           rw (e ∙ sym (s .counted (workerOf t y))) at (own-at t y (i .below))
 
       both : T (rule t .may d y) × T (not (eqb y a))
-      both = (and-left (rule t .may d y) (not (eqb y a)) (i .allowed), and-right (rule t .may d y) (not (eqb y a)) (i .allowed))
+      both = (and-left (rule t .may d y) (not (eqb y a)) (i .allowed), and-right (rule t .may d y) (not (eqb y a))
+          (i .allowed))
 
       addable-free : Free t events y
       addable-free =

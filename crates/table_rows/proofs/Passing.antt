@@ -66,7 +66,8 @@ module _ {t : Trace} {list ends lasts nexts counts : List ℕ} {q own i : ℕ} {
         };
         rows = record {
           inside = λ m h k. inside m (omega (arith, k, most));
-          each = λ m h k. plain-row room (x .follows .first) (x .going) m h (omega arith) (inside m (omega (arith, k, most)));
+          each = λ m h k. plain-row room (x .follows .first) (x .going) m h (omega arith)
+              (inside m (omega (arith, k, most)));
         };
         going = λ l. plain-going room (x .follows .first) (x .going) (reached list end last own) (x .follows .first .on)
             (omega arith) l;
@@ -179,7 +180,8 @@ module _ {t : Trace} {list ends lasts nexts counts : List ℕ} {q own i : ℕ} {
             let (r, g) = next (inside (m + 1) (omega (arith, k, b, most))) in
             plain-row long (step .next) g v k (omega (arith, b)) (inside v (omega (arith, b, most)))
 
-        going : operationAt t q (reached list end last (at + 1)) < size t → (m + 1 < last) ⊎ (last ≤ m + 1) → (r : List ℕ)
+        going : operationAt t q (reached list end last (at + 1)) < size t → (m + 1 < last) ⊎ (last ≤ m + 1)
+            → (r : List ℕ)
             × Going t (operationAt t q (reached list end last (at + 1))) q r list ends lasts nexts
             (set counts q (reached list end last (at + 1))) (withPost events′ (event (getD list at 0)))
             (set waiting′ (event (getD list at 0)) 0) 0

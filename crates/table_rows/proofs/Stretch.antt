@@ -65,7 +65,8 @@ none-own q = rw (zeros 16 q) at (set-getD none q 0)
 pub walked-own : (q : ℕ)
     {list ends lasts nexts counts events waiting nexts′ counts′ events′ waiting′ : List ℕ} {ready ready′ : ℕ}
     → Walked list ends lasts nexts counts events waiting ready nexts′ counts′ events′ waiting′ ready′
-    → (m : ℕ) × Walked list ends lasts nexts counts events waiting ready nexts′ (set counts′ q m) events′ waiting′ ready′
+    → (m : ℕ) × Walked list ends lasts nexts counts events waiting ready nexts′ (set counts′ q m) events′ waiting′
+    ready′
 walked-own q {counts′ = counts′} w = (getD counts′ q 0, rw (set-getD counts′ q 0) w)
 
 pub sized-own : {ends nexts counts events waiting : List ℕ} (q v : ℕ) → Sized ends nexts counts events waiting

@@ -14,7 +14,8 @@ use Rattle.walk.specs.Going.{Going}
 use Rattle.table_rows.specs.Filling.{RowsOf}
 
 -- worker q has done i operations, the next is left out, its list goes on from entry `own`, and nobody is ready
-pub record Own (t : Trace) (list ends lasts nexts counts : List ℕ) (q own i : ℕ) (events waiting : List ℕ) : Type 0 where
+pub record Own (t : Trace) (list ends lasts nexts counts : List ℕ) (q own i : ℕ) (events waiting : List ℕ) : Type 0
+    where
   pub fits : Fits t
   pub run : List ℕ
   pub complete : CompleteRunOf t run
@@ -25,7 +26,8 @@ pub record Own (t : Trace) (list ends lasts nexts counts : List ℕ) (q own i : 
   pub going : Going t (operationAt t q i) q so-far list ends lasts nexts (set counts q i) events waiting 0
 
 -- its steps before entry `at` have freed nobody: the rows up to there differ in the own count alone
-pub record OwnTo (t : Trace) (list ends lasts nexts counts : List ℕ) (q i at : ℕ) (events waiting : List ℕ) : Type 0 where
+pub record OwnTo (t : Trace) (list ends lasts nexts counts : List ℕ) (q i at : ℕ) (events waiting : List ℕ) : Type 0
+    where
   pub upto : i ≤ reached list (getD ends q 0) (getD lasts q 0) at
   pub most : reached list (getD ends q 0) (getD lasts q 0) at ≤ getD lasts q 0
   pub follows : Follows t (size t) list q at (getD ends q 0) (getD lasts q 0)

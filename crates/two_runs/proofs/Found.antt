@@ -1,4 +1,5 @@
--- The runs before they are written to the buffers. In order: what the writer of a run asks; the pair; a run found; both.
+-- The runs before they are written to the buffers. In order: what the writer of a run asks; the pair; a run found;
+-- both.
 use mathlib.Core.List.{List}
 use mathlib.Core.Path.{_≡_, sym, _∙_}
 use native.Mathlib.Omega.{arith}

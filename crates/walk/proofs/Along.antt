@@ -1,5 +1,5 @@
--- One worker's way along its list. In order: at the start; on by a step; with a worker freed that goes first; at an event
--- that is not posted; at the end.
+-- One worker's way along its list. In order: at the start; on by a step; with a worker freed that goes first; at an
+-- event that is not posted; at the end.
 use mathlib.Core.Bool.{Bool, true, false, not, _&&_}
 use mathlib.Core.List.{List}
 use mathlib.Core.Logic.{_⊎_, inl, inr, _≢_}
@@ -144,7 +144,8 @@ module _ {list : List ℕ} {q below from end last : ℕ} (low : q < 16) where
               };
           lowest = λ t a r counts e go y.
               let m = along-one .moved t a r counts e go in
-              lowest-plain t a q low r counts (along-one .released .words) (m .on) (m .follows .first) (m .run) (after y)
+              lowest-plain t a q low r counts (along-one .released .words) (m .on) (m .follows .first) (m .run)
+              (after y)
               (along-one .lowest t a r counts e go y);
         },
         apart,

@@ -1,5 +1,5 @@
--- A run carried on by one worker's operations, one behind the other. In order: the stretch; one operation more; the same,
--- as the lowest-numbered worker's; plain ones; a step.
+-- A run carried on by one worker's operations, one behind the other. In order: the stretch; one operation more; the
+-- same, as the lowest-numbered worker's; plain ones; a step.
 use mathlib.Core.Bool.{Bool, true, false, not, _&&_, _||_}
 use mathlib.Core.List.{List, [], _∷_, _++_, append-nil, append-assoc}
 use mathlib.Core.Logic.{_⊎_, inl, inr, _≢_}
@@ -101,7 +101,8 @@ module _ (t : Trace) (a q : ℕ) (low : q < 16) (r counts : List ℕ) where
 
   module _ {m : ℕ} {events : List ℕ} (on : getD counts q 0 ≤ m)
       (x : EndsRun t a (r ++ stretch t q (getD counts q 0) m) (set counts q m) events)
-      (below : operationAt t q m < size t) (other : operationAt t q m ≢ a) (free : Free t events (operationAt t q m)) where
+      (below : operationAt t q m < size t) (other : operationAt t q m ≢ a) (free : Free t events (operationAt t q m))
+      where
     room : q < length counts
     room = omega (arith, low, sym (length-set counts q m) ∙ x .shows .counters)
 
@@ -120,7 +121,8 @@ module _ (t : Trace) (a q : ℕ) (low : q < 16) (r counts : List ℕ) where
     pub lowest-more : ((p : ℕ) → p < q → Blocked t a events (nextOf t counts p)) → Lowest t a q r counts m
         → Lowest t a q r counts (m + 1)
     lowest-more blocked steps =
-        rw (stretch-more t q on below) (lowest-append steps (rw (done-append [] r (stretch t q (getD counts q 0) m)) at one))
+        rw (stretch-more t q on below) (lowest-append steps
+        (rw (done-append [] r (stretch t q (getD counts q 0) m)) at one))
       where
         blocked′ : (p : ℕ) → p < q → Blocked t a events (nextOf t (set counts q m) p)
         blocked′ p l = rw (getD-set-other counts q p m 0 (λ z. omega (arith, z, l))) (blocked p l)

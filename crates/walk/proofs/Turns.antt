@@ -45,7 +45,8 @@ sized-sum {ends} {nexts} s =
     omega (arith, rw (s .places) at h)
 
 module _ {list ends nexts counts events waiting events′ waiting′ : List ℕ} {ready q below at c freed rest : ℕ}
-    (lasts : List ℕ) (s : Sized ends nexts counts events waiting) (first : masks.Lowest ready q) (w : Without ready q rest)
+    (lasts : List ℕ) (s : Sized ends nexts counts events waiting) (first : masks.Lowest ready q)
+    (w : Without ready q rest)
     (g : Went list q below (getD nexts q 0) (getD ends q 0) (getD lasts q 0) events waiting events′ waiting′ at c freed)
   where
     next-own : getD (set nexts q at) q 0 ≡ at
@@ -87,7 +88,8 @@ module _ {list ends nexts counts events waiting events′ waiting′ : List ℕ}
 
     -- ---- the state
 
-    module _ (t : Trace) (a out : ℕ) (r : List ℕ) (x : Going t a out r list ends lasts nexts counts events waiting ready)
+    module _ (t : Trace) (a out : ℕ) (r : List ℕ) (x : Going t a out r list ends lasts nexts counts events waiting
+        ready)
       where
         own : Follows t a list q (getD nexts q 0) (getD ends q 0) (getD lasts q 0) (getD counts q 0)
         own = x .follows q (first .few) (x .awake q (inl (first .here)) .1)
@@ -106,7 +108,8 @@ module _ {list ends nexts counts events waiting events′ waiting′ : List ℕ}
             elim (g .along .released .waits-waited e p i) [ inl z ↦ absurd (n z) | inr k ↦ inr (e, k) ]
 
         follows : (p : ℕ) → p < 16 → p ≢ out → (p ≡ q) ⊎ (p ≢ q)
-            → Follows t a list p (getD (set nexts q at) p 0) (getD ends p 0) (getD lasts p 0) (getD (set counts q c) p 0)
+            → Follows t a list p (getD (set nexts q at) p 0) (getD ends p 0) (getD lasts p 0)
+            (getD (set counts q c) p 0)
         follows p l o (inl e) = rw (e, next-own, count-own) (moved .follows)
         follows p l o (inr n) =
             rw (getD-set-other nexts q p at 0 n, getD-set-other counts q p c 0 n) (x .follows p l o)

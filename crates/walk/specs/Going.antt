@@ -1,7 +1,8 @@
 -- The state of a walk by a set of ready workers.
 -- Follows: document 01, "Runs": "the state of a walk is how many operations each worker has done, and the set of posted
 -- events"; "Two runs": "the lowest-numbered worker whose next operation may run".
--- Differs: beside the state stand who is ready, how far each worker is in its list, and for each event who waits for it.
+-- Differs: beside the state stand who is ready, how far each worker is in its list, and for each event who waits for
+-- it.
 -- A means.
 use mathlib.Core.Bool.{Bool, true, false}
 use mathlib.Core.List.{List, [], _∷_, _++_}
@@ -33,8 +34,8 @@ pub data Stopped (t : Trace) (a : ℕ) (events waiting : List ℕ) (q k : ℕ) :
 abbrev pub Awake : List ℕ → ℕ → ℕ → Type 0
 Awake waiting ready q = (q isIn ready) ⊎ ((e : ℕ) × (q isIn getD waiting e 0))
 
--- the state of a walk without a, at the end of the run r: each worker but `out` has its list before it; only such workers
--- are ready or wait; a worker that is not ready has stopped
+-- the state of a walk without a, at the end of the run r: each worker but `out` has its list before it; only such
+-- workers are ready or wait; a worker that is not ready has stopped
 pub record Going (t : Trace) (a out : ℕ) (r list ends lasts nexts counts events waiting : List ℕ) (ready : ℕ) : Type 0
   where
     pub run : EndsRun t a r counts events
@@ -55,8 +56,8 @@ pub record Entered (q e : ℕ) (waiting waiting′ : List ℕ) : Type 0 where
   pub is : waiting′ ≡ set waiting e mask
   pub one-more : With (getD waiting e 0) q mask
 
--- whoever waits for an event that is not posted still does, or is freed; but for q nobody is freed who did not wait, and
--- nobody comes to wait
+-- whoever waits for an event that is not posted still does, or is freed; but for q nobody is freed who did not wait,
+-- and nobody comes to wait
 pub record Released (q : ℕ) (events waiting events′ waiting′ : List ℕ) (freed : ℕ) : Type 0 where
   pub room : length waiting′ ≡ 256
   pub words : length events′ ≡ 4
@@ -82,8 +83,8 @@ abbrev pub Lowest : Trace → ℕ → ℕ → List ℕ → List ℕ → ℕ → 
 Lowest t a q r counts c =
     LowestSteps (workerOf t) (without (rule t) a) (done [] r) (stretch t q (getD counts q 0) c)
 
--- worker q's way from entry `from` to entry `at`, with c operations done: so in whatever trace its list is right. It lets
--- the workers in `below` go first
+-- worker q's way from entry `from` to entry `at`, with c operations done: so in whatever trace its list is right. It
+-- lets the workers in `below` go first
 pub record Along (list : List ℕ) (q below from end last : ℕ) (events waiting events′ waiting′ : List ℕ) (at c freed : ℕ)
     : Type 0 where
   pub from-on : from ≤ at

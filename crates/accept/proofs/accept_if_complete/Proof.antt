@@ -1,21 +1,16 @@
-use Rattle.accept.proofs.Accepting.{handed-opens}
+-- `accept_if_complete` meets its contract. Assumes nothing.
+use borrow.Author.Needs.{needs}
 use Rattle.trace.proofs.Fitting.{trace-fits}
 use Rattle.trace.specs.Reading.{traceOf}
-use borrow.Author.Needs.{needs}
+use Rattle.accept.proofs.Accepting.{handed-opens}
 use Rattle.accept.proofs.accept_if_complete.Statement.{statement}
 use Rattle.accept.proofs.accept_if_complete.Tie as tie
-use Rattle.accept.proofs.accept_if_complete.Reads as reads
-use Rattle.accept.proofs.accept_if_complete.Lts as lts
-use Rattle.accept.proofs.accept_if_done.Reads as accept-if-done-reads
-use Rattle.courses.proofs.walk_whole.Reads as walk-whole-reads
 
--- src/lib.rt:93:9
 walk-whole-requires : tie.Need-walk-whole-requires
 walk-whole-requires c κs =
     let (h, x) = c .before .pre in
     (h .most, handed-opens h x)
 
--- src/lib.rt:95:5
 accept-if-done-requires : tie.Need-accept-if-done-requires
 accept-if-done-requires c κs =
     let (h, x) = c .before .before .before .before .pre in
@@ -23,7 +18,6 @@ accept-if-done-requires c κs =
     let (run, end) = c .before .before .walk-whole .ensures t (trace-fits h) (h .workers) (x .listed) in
     (h, x .indexed, record { run = run; events = _; exhausted = end })
 
--- src/lib.rt:80:1
 returns : tie.Need-returns
 returns c = search needs
 

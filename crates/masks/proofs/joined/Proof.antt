@@ -1,11 +1,9 @@
-use lib.Bits.{or-lt}
+-- `joined` meets its contract. Assumes nothing.
 use mathlib.Core.Path.{refl}
+use lib.Bits.{or-lt}
 use Rattle.masks.proofs.joined.Statement.{statement}
 use Rattle.masks.proofs.joined.Tie as tie
-use Rattle.masks.proofs.joined.Reads as reads
-use Rattle.masks.proofs.joined.Lts as lts
 
--- src/lib.rt:42:1
 returns : tie.Need-returns
 returns c = (refl, or-lt 16 (c .args .x) (c .args .y) (c .fits .x .fits) (c .fits .y .fits))
 

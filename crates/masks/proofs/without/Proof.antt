@@ -1,19 +1,15 @@
-use Rattle.masks.proofs.Sets.{without-one}
+-- `without` meets its contract. Assumes nothing.
 use borrow.Author.Needs.{needs}
+use Rattle.masks.proofs.Sets.{without-one}
 use Rattle.masks.proofs.without.Statement.{statement}
 use Rattle.masks.proofs.without.Tie as tie
-use Rattle.masks.proofs.without.Reads as reads
-use Rattle.masks.proofs.without.Lts as lts
 
--- src/lib.rt:36:20
 cast-result : tie.Need-cast-result
 cast-result c = search needs
 
--- src/lib.rt:36:12
 shl-result : tie.Need-shl-result
 shl-result c = search needs
 
--- src/lib.rt:32:1
 returns : tie.Need-returns
 returns c = without-one (c .args .set) (c .args .q) (c .pre .0) (c .pre .1)
 

@@ -1,13 +1,10 @@
-use Rattle.basics.proofs.Booleans.{zero-one}
-use borrow.Author.Tests.{eqb-true, eqb-false, not-true, not-false}
-use native.Mathlib.Omega.{arith}
+-- `is_pair` meets its contract. Assumes nothing.
 use mathlib.Core.Logic.{inl, inr}
+use borrow.Author.Tests.{eqb-true, eqb-false, not-true, not-false}
+use Rattle.basics.proofs.Booleans.{zero-one}
 use Rattle.pair_order.proofs.is_pair.Statement.{statement}
 use Rattle.pair_order.proofs.is_pair.Tie as tie
-use Rattle.pair_order.proofs.is_pair.Reads as reads
-use Rattle.pair_order.proofs.is_pair.Lts as lts
 
--- src/lib.rt:35:13
 returns : tie.Need-returns
 returns c = (
   λ e. record {
@@ -18,11 +15,9 @@ returns c = (
   λ e. inr (inr (eqb-true _ _ (not-false _ e))),
 )
 
--- src/lib.rt:37:9
 returns-2 : tie.Need-returns-2
 returns-2 c = (λ e. absurd (zero-one cc), λ e. inr (inl (c .if2 .left)))
 
--- src/lib.rt:30:1
 returns-3 : tie.Need-returns-3
 returns-3 c = (λ e. absurd (zero-one cc), λ e. inl (c .if1 .left))
 

@@ -1,16 +1,14 @@
-use borrow.Author.Needs.{needs}
-use Rattle.places.proofs.Lookups.{lowest-none, lowest-new, lowest-old}
-use Rattle.states.specs.States.{lowestLeft}
-use Rattle.index.specs.Indexed.{Places}
-use Rattle.trace.specs.Trace.{Trace}
-use Prim.Native.Nat.{_-_, _<_, _≤_}
-use native.Mathlib.Omega.{arith}
+-- `lowest_left` meets its contract. The invariant: the lowest of the workers below q. Assumes nothing.
 use mathlib.Core.Path.{_≡_, sym, _∙_}
+use native.Mathlib.Omega.{arith}
+use Prim.Native.Nat.{_-_, _<_, _≤_}
+use borrow.Author.Needs.{needs}
+use Rattle.trace.specs.Trace.{Trace}
+use Rattle.index.specs.Indexed.{Places}
+use Rattle.states.specs.States.{lowestLeft}
+use Rattle.places.proofs.Lookups.{lowest-none, lowest-new, lowest-old}
 use Rattle.places.proofs.lowest_left.Statement.{statement}
 use Rattle.places.proofs.lowest_left.Tie as tie
-use Rattle.places.proofs.lowest_left.Reads as reads
-use Rattle.places.proofs.lowest_left.Lts as lts
-use Rattle.places.proofs.next_operation.Reads as next-operation-reads
 
 abbrev Inv-loop : tie.InvT-loop
 Inv-loop p n order starts done least₀ q₀ least q =
@@ -19,52 +17,47 @@ Inv-loop p n order starts done least₀ q₀ least q =
 abbrev μ-loop : tie.MeasureT-loop
 μ-loop p n order starts done least₀ q₀ least q = p - q
 
--- src/lib.rt:230:5
 loop-holds : tie.Need-loop-holds Inv-loop μ-loop
 loop-holds c = (omega arith, λ t x e. sym (lowest-none t (c .args .done .now) ∙ x .count))
 
--- src/lib.rt:231:13
 next-operation-requires : tie.Need-next-operation-requires Inv-loop μ-loop
 next-operation-requires c κs =
     let few = c .loop-test .taken in
     let low : c .before .loop .q < 16 = omega (arith, few, c .before .before .pre .0) in
     (low, c .before .before .pre .1 _ low)
 
--- src/lib.rt:232:9
 add-q : tie.Need-add-q Inv-loop μ-loop
 add-q c = search needs
 
--- src/lib.rt:230:5
 loop-less : tie.Need-loop-less Inv-loop μ-loop
 loop-less c = search needs
 
--- src/lib.rt:230:5
 loop-again : tie.Need-loop-again Inv-loop μ-loop
 loop-again c =
     let few = c .before .before .loop-test .taken in (
       omega (arith, few),
-      λ t x e. lowest-new t (c .before .before .before .before .args .done .now) _ (c .before .before .before .loop .inv .1 t x e)
+      λ t x e. lowest-new t (c .before .before .before .before .args .done .now) _
+      (c .before .before .before .loop .inv .1 t x e)
           (c .before .next-operation .ensures t x (omega (arith, few, e))) (c .if1 .taken),
     )
 
--- src/lib.rt:230:5
 loop-less-2 : tie.Need-loop-less-2 Inv-loop μ-loop
 loop-less-2 c = search needs
 
--- src/lib.rt:230:5
 loop-again-2 : tie.Need-loop-again-2 Inv-loop μ-loop
 loop-again-2 c =
     let few = c .before .before .loop-test .taken in (
       omega (arith, few),
-      λ t x e. lowest-old t (c .before .before .before .before .args .done .now) _ (c .before .before .before .loop .inv .1 t x e)
+      λ t x e. lowest-old t (c .before .before .before .before .args .done .now) _
+      (c .before .before .before .loop .inv .1 t x e)
           (c .before .next-operation .ensures t x (omega (arith, few, e))) (c .if1 .left),
     )
 
--- src/lib.rt:217:1
 returns : tie.Need-returns Inv-loop μ-loop
 returns c =
     λ t x e.
-    let all : c .before .loop .q ≡ c .before .before .args .p = omega (arith, c .before .loop .inv .0, c .loop-test .left) in
+    let all : c .before .loop .q ≡ c .before .before .args .p = omega
+    (arith, c .before .loop .inv .0, c .loop-test .left) in
     rw all at (c .before .loop .inv .1 t x e)
 
 pub lowest-left-spec : {M : Type 1} → statement M

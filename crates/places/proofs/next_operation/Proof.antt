@@ -1,87 +1,72 @@
-use Rattle.places.proofs.Lookups.{next-found, next-past}
-use native.Mathlib.Omega.{arith}
-use mathlib.Core.Path.{_≡_, _∙_}
+-- `next_operation` meets its contract. Assumes nothing.
+use mathlib.Core.Path.{_∙_}
 use borrow.Author.Needs.{needs}
+use Rattle.places.proofs.Lookups.{next-found, next-past}
 use Rattle.places.proofs.next_operation.Statement.{statement}
 use Rattle.places.proofs.next_operation.Tie as tie
-use Rattle.places.proofs.next_operation.Reads as reads
-use Rattle.places.proofs.next_operation.Lts as lts
-use Rattle.basics.proofs.index.Reads as index-reads
 
--- src/lib.rt:209:28
 mul-index : tie.Need-mul-index
 mul-index c = search needs
 
--- src/lib.rt:209:28
 element-copy-out-index : tie.Need-element-copy-out-index
 element-copy-out-index c = search needs
 
--- src/lib.rt:209:14
 index-requires : tie.Need-index-requires
 index-requires c κs = search needs
 
--- src/lib.rt:209:55
 mul-index-2 : tie.Need-mul-index-2
 mul-index-2 c = search needs
 
--- src/lib.rt:209:55
 element-copy-out-index-2 : tie.Need-element-copy-out-index-2
 element-copy-out-index-2 c = search needs
 
--- src/lib.rt:209:41
 index-requires-2 : tie.Need-index-requires-2
 index-requires-2 c κs = search needs
 
--- src/lib.rt:209:14
 add-at : tie.Need-add-at
 add-at c = search needs
 
--- src/lib.rt:210:34
 add-index : tie.Need-add-index
 add-index c = search needs
 
--- src/lib.rt:210:27
 mul-index-3 : tie.Need-mul-index-3
 mul-index-3 c = search needs
 
--- src/lib.rt:210:27
 element-copy-out-index-3 : tie.Need-element-copy-out-index-3
 element-copy-out-index-3 c = search needs
 
--- src/lib.rt:210:13
 index-requires-3 : tie.Need-index-requires-3
 index-requires-3 c κs = search needs
 
--- src/lib.rt:211:30
 mul-index-4 : tie.Need-mul-index-4
 mul-index-4 c = search needs
 
--- src/lib.rt:211:30
 element-copy-out-index-4 : tie.Need-element-copy-out-index-4
 element-copy-out-index-4 c = search needs
 
--- src/lib.rt:211:9
 index-requires-4 : tie.Need-index-requires-4
 index-requires-4 c κs = search needs
 
--- src/lib.rt:211:9
 returns : tie.Need-returns
 returns c =
+    let c3 = c .before .before .before in
+    let c7 = c3 .before .before .before .before in
     λ t x known.
-    let from = c .before .before .before .before .before .before .before .index .ensures .0 in
-    let count = c .before .before .before .before .before .index2 .ensures .0 in
-    let end = c .before .before .before .index3 .ensures .0 in
+    let from = c7 .index .ensures .0 in
+    let count = c3 .before .before .index2 .ensures .0 in
+    let end = c3 .index3 .ensures .0 in
     let here = rw (from, count, end) at (c .before .before .if1 .taken) in
-    c .index4 .ensures .0 ∙ rw (from, count) (next-found x (c .before .before .before .before .before .before .before .before .before .args .done .now) known here)
+    c .index4 .ensures .0 ∙ rw (from, count) (next-found x (c7 .before .before .args .done .now) known here)
 
--- src/lib.rt:198:1
 returns-2 : tie.Need-returns-2
 returns-2 c =
+    let c3 = c .before .before .before in
+    let c7 = c3 .before .before .before .before in
     λ t x known.
-    let from = c .before .before .before .before .before .index .ensures .0 in
-    let count = c .before .before .before .index2 .ensures .0 in
+    let from = c3 .before .before .index .ensures .0 in
+    let count = c3 .index2 .ensures .0 in
     let end = c .before .index3 .ensures .0 in
-    next-past x (c .before .before .before .before .before .before .before .args .done .now) known (rw (from, count, end) at (c .if1 .left))
+    next-past x (c7 .args .done .now) known (rw (from, count, end) at (c .if1 .left))
 
 pub next-operation-spec : {M : Type 1} → statement M
 next-operation-spec =

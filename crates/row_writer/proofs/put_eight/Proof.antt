@@ -1,210 +1,176 @@
+-- `put_eight` meets its contract. Assumes nothing.
 use mathlib.Core.Path.{_≡_}
 use native.Mathlib.Omega.{arith}
-use Prim.Native.Nat.{_+_, _≤_}
+use Prim.Native.Nat.{_+_}
 use lib.ListN.{drop, length-set}
 use lib.Seq.{paste-zero}
-use Rattle.row_writer.proofs.Counts.{copied-more}
 use borrow.Author.Needs.{needs}
+use Rattle.row_writer.proofs.Counts.{copied-more}
 use Rattle.row_writer.proofs.put_eight.Statement.{statement}
 use Rattle.row_writer.proofs.put_eight.Tie as tie
-use Rattle.row_writer.proofs.put_eight.Reads as reads
-use Rattle.row_writer.proofs.put_eight.Lts as lts
 
--- src/lib.rt:27:14
 mul-x0 : tie.Need-mul-x0
 mul-x0 c = search needs
 
--- src/lib.rt:27:14
 element-copy-out-x0 : tie.Need-element-copy-out-x0
 element-copy-out-x0 c = search needs
 
--- src/lib.rt:28:19
 add-x1 : tie.Need-add-x1
 add-x1 c = search needs
 
--- src/lib.rt:28:14
 mul-x1 : tie.Need-mul-x1
 mul-x1 c = search needs
 
--- src/lib.rt:28:14
 element-copy-out-x1 : tie.Need-element-copy-out-x1
 element-copy-out-x1 c = search needs
 
--- src/lib.rt:29:19
 add-x2 : tie.Need-add-x2
 add-x2 c = search needs
 
--- src/lib.rt:29:14
 mul-x2 : tie.Need-mul-x2
 mul-x2 c = search needs
 
--- src/lib.rt:29:14
 element-copy-out-x2 : tie.Need-element-copy-out-x2
 element-copy-out-x2 c = search needs
 
--- src/lib.rt:30:19
 add-x3 : tie.Need-add-x3
 add-x3 c = search needs
 
--- src/lib.rt:30:14
 mul-x3 : tie.Need-mul-x3
 mul-x3 c = search needs
 
--- src/lib.rt:30:14
 element-copy-out-x3 : tie.Need-element-copy-out-x3
 element-copy-out-x3 c = search needs
 
--- src/lib.rt:31:19
 add-x4 : tie.Need-add-x4
 add-x4 c = search needs
 
--- src/lib.rt:31:14
 mul-x4 : tie.Need-mul-x4
 mul-x4 c = search needs
 
--- src/lib.rt:31:14
 element-copy-out-x4 : tie.Need-element-copy-out-x4
 element-copy-out-x4 c = search needs
 
--- src/lib.rt:32:19
 add-x5 : tie.Need-add-x5
 add-x5 c = search needs
 
--- src/lib.rt:32:14
 mul-x5 : tie.Need-mul-x5
 mul-x5 c = search needs
 
--- src/lib.rt:32:14
 element-copy-out-x5 : tie.Need-element-copy-out-x5
 element-copy-out-x5 c = search needs
 
--- src/lib.rt:33:19
 add-x6 : tie.Need-add-x6
 add-x6 c = search needs
 
--- src/lib.rt:33:14
 mul-x6 : tie.Need-mul-x6
 mul-x6 c = search needs
 
--- src/lib.rt:33:14
 element-copy-out-x6 : tie.Need-element-copy-out-x6
 element-copy-out-x6 c = search needs
 
--- src/lib.rt:34:19
 add-x7 : tie.Need-add-x7
 add-x7 c = search needs
 
--- src/lib.rt:34:14
 mul-x7 : tie.Need-mul-x7
 mul-x7 c = search needs
 
--- src/lib.rt:34:14
 element-copy-out-x7 : tie.Need-element-copy-out-x7
 element-copy-out-x7 c = search needs
 
--- src/lib.rt:35:5
 mul-part : tie.Need-mul-part
 mul-part c = search needs
 
--- src/lib.rt:35:5
 slice-write-part : tie.Need-slice-write-part
 slice-write-part c = search needs
 
--- src/lib.rt:36:10
 add-part : tie.Need-add-part
 add-part c = search needs
 
--- src/lib.rt:36:5
 mul-part-2 : tie.Need-mul-part-2
 mul-part-2 c = search needs
 
--- src/lib.rt:36:5
 slice-write-part-2 : tie.Need-slice-write-part-2
-slice-write-part-2 c = simp length-set (omega (arith, c .before .before .before .before .before .before .before .before .pre .2))
+slice-write-part-2 c =
+    let c8 = c .before .before .before .before .before .before .before .before in
+    simp length-set (omega (arith, c8 .pre .2))
 
--- src/lib.rt:37:10
 add-part-2 : tie.Need-add-part-2
 add-part-2 c = search needs
 
--- src/lib.rt:37:5
 mul-part-3 : tie.Need-mul-part-3
 mul-part-3 c = search needs
 
--- src/lib.rt:37:5
 slice-write-part-3 : tie.Need-slice-write-part-3
-slice-write-part-3 c = simp length-set (omega (arith, c .before .before .before .before .before .before .before .before .pre .2))
+slice-write-part-3 c =
+    let c8 = c .before .before .before .before .before .before .before .before in
+    simp length-set (omega (arith, c8 .pre .2))
 
--- src/lib.rt:38:10
 add-part-3 : tie.Need-add-part-3
 add-part-3 c = search needs
 
--- src/lib.rt:38:5
 mul-part-4 : tie.Need-mul-part-4
 mul-part-4 c = search needs
 
--- src/lib.rt:38:5
 slice-write-part-4 : tie.Need-slice-write-part-4
-slice-write-part-4 c = simp length-set (omega (arith, c .before .before .before .before .before .before .before .before .pre .2))
+slice-write-part-4 c =
+    let c8 = c .before .before .before .before .before .before .before .before in
+    simp length-set (omega (arith, c8 .pre .2))
 
--- src/lib.rt:39:10
 add-part-4 : tie.Need-add-part-4
 add-part-4 c = search needs
 
--- src/lib.rt:39:5
 mul-part-5 : tie.Need-mul-part-5
 mul-part-5 c = search needs
 
--- src/lib.rt:39:5
 slice-write-part-5 : tie.Need-slice-write-part-5
-slice-write-part-5 c = simp length-set (omega (arith, c .before .before .before .before .before .before .before .before .pre .2))
+slice-write-part-5 c =
+    let c8 = c .before .before .before .before .before .before .before .before in
+    simp length-set (omega (arith, c8 .pre .2))
 
--- src/lib.rt:40:10
 add-part-5 : tie.Need-add-part-5
 add-part-5 c = search needs
 
--- src/lib.rt:40:5
 mul-part-6 : tie.Need-mul-part-6
 mul-part-6 c = search needs
 
--- src/lib.rt:40:5
 slice-write-part-6 : tie.Need-slice-write-part-6
-slice-write-part-6 c = simp length-set (omega (arith, c .before .before .before .before .before .before .before .before .pre .2))
+slice-write-part-6 c =
+    let c8 = c .before .before .before .before .before .before .before .before in
+    simp length-set (omega (arith, c8 .pre .2))
 
--- src/lib.rt:41:10
 add-part-6 : tie.Need-add-part-6
 add-part-6 c = search needs
 
--- src/lib.rt:41:5
 mul-part-7 : tie.Need-mul-part-7
 mul-part-7 c = search needs
 
--- src/lib.rt:41:5
 slice-write-part-7 : tie.Need-slice-write-part-7
-slice-write-part-7 c = simp length-set (omega (arith, c .before .before .before .before .before .before .before .before .pre .2))
+slice-write-part-7 c =
+    let c8 = c .before .before .before .before .before .before .before .before in
+    simp length-set (omega (arith, c8 .pre .2))
 
--- src/lib.rt:42:10
 add-part-7 : tie.Need-add-part-7
 add-part-7 c = search needs
 
--- src/lib.rt:42:5
 mul-part-8 : tie.Need-mul-part-8
 mul-part-8 c = search needs
 
--- src/lib.rt:42:5
 slice-write-part-8 : tie.Need-slice-write-part-8
-slice-write-part-8 c = simp length-set (omega (arith, c .before .before .before .before .before .before .before .before .pre .2))
+slice-write-part-8 c =
+    let c8 = c .before .before .before .before .before .before .before .before in
+    simp length-set (omega (arith, c8 .pre .2))
 
--- src/lib.rt:23:1
 same-length : tie.Need-same-length
 same-length c = simp length-set
 
--- src/lib.rt:23:1
 returns : tie.Need-returns
 returns c =
-    let s = c .before .before .before .before .before .before .before .before .args in
+    let c8 = c .before .before .before .before .before .before .before .before in
+    let s = c8 .args in
     let part = s .part .now in
     let done = s .done .now in
-    let (few, inside, room) = c .before .before .before .before .before .before .before .before .pre in
+    let (few, inside, room) = c8 .pre in
     let z : s .at + 0 ≡ s .at = omega arith in
     let e0 = paste-zero part (s .at) (drop (s .at) done) in
     let e1 = rw z at (copied-more part done (s .at) 0 (omega (arith, room)) (omega (arith, inside)) e0) in

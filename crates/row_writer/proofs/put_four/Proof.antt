@@ -1,108 +1,83 @@
+-- `put_four` meets its contract. Assumes nothing.
 use mathlib.Core.Path.{_≡_}
 use native.Mathlib.Omega.{arith}
-use Prim.Native.Nat.{_+_, _≤_}
+use Prim.Native.Nat.{_+_}
 use lib.ListN.{drop, length-set}
 use lib.Seq.{paste-zero}
-use Rattle.row_writer.proofs.Counts.{copied-more}
 use borrow.Author.Needs.{needs}
+use Rattle.row_writer.proofs.Counts.{copied-more}
 use Rattle.row_writer.proofs.put_four.Statement.{statement}
 use Rattle.row_writer.proofs.put_four.Tie as tie
-use Rattle.row_writer.proofs.put_four.Reads as reads
-use Rattle.row_writer.proofs.put_four.Lts as lts
 
--- src/lib.rt:12:14
 mul-x0 : tie.Need-mul-x0
 mul-x0 c = search needs
 
--- src/lib.rt:12:14
 element-copy-out-x0 : tie.Need-element-copy-out-x0
 element-copy-out-x0 c = search needs
 
--- src/lib.rt:13:19
 add-x1 : tie.Need-add-x1
 add-x1 c = search needs
 
--- src/lib.rt:13:14
 mul-x1 : tie.Need-mul-x1
 mul-x1 c = search needs
 
--- src/lib.rt:13:14
 element-copy-out-x1 : tie.Need-element-copy-out-x1
 element-copy-out-x1 c = search needs
 
--- src/lib.rt:14:19
 add-x2 : tie.Need-add-x2
 add-x2 c = search needs
 
--- src/lib.rt:14:14
 mul-x2 : tie.Need-mul-x2
 mul-x2 c = search needs
 
--- src/lib.rt:14:14
 element-copy-out-x2 : tie.Need-element-copy-out-x2
 element-copy-out-x2 c = search needs
 
--- src/lib.rt:15:19
 add-x3 : tie.Need-add-x3
 add-x3 c = search needs
 
--- src/lib.rt:15:14
 mul-x3 : tie.Need-mul-x3
 mul-x3 c = search needs
 
--- src/lib.rt:15:14
 element-copy-out-x3 : tie.Need-element-copy-out-x3
 element-copy-out-x3 c = search needs
 
--- src/lib.rt:16:5
 mul-part : tie.Need-mul-part
 mul-part c = search needs
 
--- src/lib.rt:16:5
 slice-write-part : tie.Need-slice-write-part
 slice-write-part c = search needs
 
--- src/lib.rt:17:10
 add-part : tie.Need-add-part
 add-part c = search needs
 
--- src/lib.rt:17:5
 mul-part-2 : tie.Need-mul-part-2
 mul-part-2 c = search needs
 
--- src/lib.rt:17:5
 slice-write-part-2 : tie.Need-slice-write-part-2
 slice-write-part-2 c = simp length-set (omega (arith, c .before .before .before .before .pre .2))
 
--- src/lib.rt:18:10
 add-part-2 : tie.Need-add-part-2
 add-part-2 c = search needs
 
--- src/lib.rt:18:5
 mul-part-3 : tie.Need-mul-part-3
 mul-part-3 c = search needs
 
--- src/lib.rt:18:5
 slice-write-part-3 : tie.Need-slice-write-part-3
 slice-write-part-3 c = simp length-set (omega (arith, c .before .before .before .before .pre .2))
 
--- src/lib.rt:19:10
 add-part-3 : tie.Need-add-part-3
 add-part-3 c = search needs
 
--- src/lib.rt:19:5
 mul-part-4 : tie.Need-mul-part-4
 mul-part-4 c = search needs
 
--- src/lib.rt:19:5
 slice-write-part-4 : tie.Need-slice-write-part-4
 slice-write-part-4 c = simp length-set (omega (arith, c .before .before .before .before .pre .2))
 
--- src/lib.rt:8:1
 same-length : tie.Need-same-length
 same-length c = search needs
 
--- src/lib.rt:8:1
 returns : tie.Need-returns
 returns c =
     let s = c .before .before .before .before .args in

@@ -1,70 +1,58 @@
-use lib.ListN.{getD}
-use Prim.Native.Nat.{ℕ}
+-- `copy` meets its contract. The invariant: i numbers are copied. Assumes nothing.
+use mathlib.Core.Path.{_≡_, _∙_}
+use native.Mathlib.Omega.{arith}
+use Prim.Native.Nat.{ℕ, _+_, _-_, _≤_}
+use lib.ListN.{getD, length, drop, length-set}
+use lib.Seq.{paste, paste-zero}
 use borrow.Author.Needs.{needs}
 use Rattle.run_writer.proofs.Turns.{copied-next}
-use lib.Seq.{paste, paste-zero, length-paste}
-use lib.ListN.{length, drop, length-set}
-use Prim.Native.Nat.{_+_, _-_, _<_, _≤_}
-use native.Mathlib.Omega.{arith}
-use mathlib.Core.Path.{_≡_, sym, _∙_}
 use Rattle.run_writer.proofs.copy.Statement.{statement}
 use Rattle.run_writer.proofs.copy.Tie as tie
-use Rattle.run_writer.proofs.copy.Reads as reads
-use Rattle.run_writer.proofs.copy.Lts as lts
 
 abbrev Inv-loop : tie.InvT-loop
-Inv-loop order from count run₀ at i₀ run i = (i ≤ count) × (run ≡ paste run₀ at (drop from order) i) × (length run ≡ 1024)
+Inv-loop order from count run₀ at i₀ run i =
+    (i ≤ count) × (run ≡ paste run₀ at (drop from order) i) × (length run ≡ 1024)
 
 abbrev μ-loop : tie.MeasureT-loop
 μ-loop order from count run₀ at i₀ run i = count - i
 
--- src/lib.rt:24:5
 loop-holds : tie.Need-loop-holds Inv-loop μ-loop
 loop-holds c =
     let (few, inside, room, long) = c .pre in
     (omega arith, paste-zero (c .args .run .now) (c .args .at) (drop (c .args .from) (c .args .order .now)), long)
 
--- src/lib.rt:25:29
 add-run : tie.Need-add-run Inv-loop μ-loop
 add-run c =
     let (few, inside, room, long) = c .before .before .pre in
     record { fits = omega (arith, few, c .loop-test .taken) }
 
--- src/lib.rt:25:23
 mul-run : tie.Need-mul-run Inv-loop μ-loop
 mul-run c = search needs
 
--- src/lib.rt:25:23
 element-copy-out-run : tie.Need-element-copy-out-run Inv-loop μ-loop
 element-copy-out-run c =
     let (few, inside, room, long) = c .before .before .pre in
     omega (arith, few, c .loop-test .taken)
 
--- src/lib.rt:25:13
 add-run-2 : tie.Need-add-run-2 Inv-loop μ-loop
 add-run-2 c =
     let (few, inside, room, long) = c .before .before .before .pre in
     record { fits = omega (arith, room, c .before .loop-test .taken) }
 
--- src/lib.rt:25:9
 mul-run-2 : tie.Need-mul-run-2 Inv-loop μ-loop
 mul-run-2 c = search needs
 
--- src/lib.rt:25:9
 element-write-run : tie.Need-element-write-run Inv-loop μ-loop
 element-write-run c =
     let (few, inside, room, long) = c .before .before .before .pre in
     omega (arith, room, c .before .loop-test .taken)
 
--- src/lib.rt:26:9
 add-i : tie.Need-add-i Inv-loop μ-loop
 add-i c = search needs
 
--- src/lib.rt:24:5
 loop-less : tie.Need-loop-less Inv-loop μ-loop
 loop-less c = search needs
 
--- src/lib.rt:24:5
 loop-again : tie.Need-loop-again Inv-loop μ-loop
 loop-again c =
     let (few, inside, room, long) = c .before .before .before .pre in
@@ -77,7 +65,6 @@ loop-again c =
       length-set {A = ℕ} (c .before .before .loop .run) (s .at + i) (getD (s .order .now) (s .from + i) 0) ∙ wide,
     )
 
--- src/lib.rt:19:1
 returns : tie.Need-returns Inv-loop μ-loop
 returns c =
     let (up, is, wide) = c .before .loop .inv in

@@ -9,7 +9,6 @@ use borrow.Author.Needs.{needs}
 use Rattle.table_rows.proofs.put_row.Statement.{statement}
 use Rattle.table_rows.proofs.put_row.Tie as tie
 
--- the part has p numbers
 width : (s : tie.Start)
     → let first = s .args .k * s .args .p in
     length (take (first + s .args .p - first) (drop first (s .args .table .now))) ≡ s .args .p
@@ -51,7 +50,8 @@ same-length c = search needs
 
 returns : tie.Need-returns
 returns c =
-    let s = c .before .before .before .before .before in
+    let c5 = c .before .before .before .before .before in
+    let s = c5 in
     let index = add-sub-cancel-left (s .args .k * s .args .p) (s .args .p) in
     rw (c .before .before .write-row .ensures, width s, index)
 

@@ -1,13 +1,12 @@
+-- `copy_run` meets its contract. The invariant: i numbers are copied. Assumes nothing.
+use mathlib.Core.Path.{_≡_}
+use native.Mathlib.Omega.{arith}
+use Prim.Native.Nat.{_-_, _≤_}
+use lib.ListN.{take}
 use borrow.Author.Needs.{needs}
 use Rattle.lent.proofs.Writing.{Written, written-none, written-copy}
-use lib.ListN.{length, take}
-use Prim.Native.Nat.{_-_, _<_, _≤_}
-use native.Mathlib.Omega.{arith}
-use mathlib.Core.Path.{_≡_}
 use Rattle.two_runs.proofs.copy_run.Statement.{statement}
 use Rattle.two_runs.proofs.copy_run.Tie as tie
-use Rattle.two_runs.proofs.copy_run.Reads as reads
-use Rattle.two_runs.proofs.copy_run.Lts as lts
 
 abbrev Inv-loop : tie.InvT-loop
 Inv-loop run n buffer₀ i₀ buffer i = (i ≤ n) × Written i (take i run) buffer₀ buffer
@@ -15,47 +14,38 @@ Inv-loop run n buffer₀ i₀ buffer i = (i ≤ n) × Written i (take i run) buf
 abbrev μ-loop : tie.MeasureT-loop
 μ-loop run n buffer₀ i₀ buffer i = n - i
 
--- src/lib.rt:28:5
 loop-holds : tie.Need-loop-holds Inv-loop μ-loop
 loop-holds c = (omega arith, written-none _)
 
--- src/lib.rt:29:21
 mul-buffer : tie.Need-mul-buffer Inv-loop μ-loop
 mul-buffer c = search needs
 
--- src/lib.rt:29:21
 element-copy-out-buffer : tie.Need-element-copy-out-buffer Inv-loop μ-loop
 element-copy-out-buffer c = search needs
 
--- src/lib.rt:29:9
 mul-buffer-2 : tie.Need-mul-buffer-2 Inv-loop μ-loop
 mul-buffer-2 c = search needs
 
--- src/lib.rt:29:9
 slice-write-buffer : tie.Need-slice-write-buffer Inv-loop μ-loop
 slice-write-buffer c = search needs
 
--- src/lib.rt:30:9
 add-i : tie.Need-add-i Inv-loop μ-loop
 add-i c = search needs
 
--- src/lib.rt:28:5
 loop-less : tie.Need-loop-less Inv-loop μ-loop
 loop-less c = search needs
 
--- src/lib.rt:28:5
 loop-again : tie.Need-loop-again Inv-loop μ-loop
 loop-again c =
     let (few, inside, room) = c .before .before .before .pre in
     let (up, w) = c .before .before .loop .inv in
     let l = c .before .loop-test .taken in
-    (omega (arith, l), written-copy (c .before .before .before .args .run .now) w 0 (omega (arith, l, inside)) (omega (arith, l, room, w .size)))
+    (omega (arith, l), written-copy (c .before .before .before .args .run .now) w 0 (omega (arith, l, inside))
+    (omega (arith, l, room, w .size)))
 
--- src/lib.rt:23:1
 same-length : tie.Need-same-length Inv-loop μ-loop
 same-length c = search needs
 
--- src/lib.rt:23:1
 returns : tie.Need-returns Inv-loop μ-loop
 returns c =
     let (up, w) = c .before .loop .inv in

@@ -1,40 +1,33 @@
-use Rattle.two_runs.proofs.Answers.{call-unpaired}
+-- `runs_if_pair` meets its contract. Assumes nothing.
 use mathlib.Core.Path.{sym}
 use borrow.Author.Needs.{needs}
+use Rattle.two_runs.proofs.Answers.{call-unpaired}
 use Rattle.two_runs.proofs.runs_if_pair.Statement.{statement}
 use Rattle.two_runs.proofs.runs_if_pair.Tie as tie
-use Rattle.two_runs.proofs.runs_if_pair.Reads as reads
-use Rattle.two_runs.proofs.runs_if_pair.Lts as lts
-use Rattle.pair_order.proofs.is_pair.Reads as is-pair-reads
-use Rattle.pair_order.proofs.refuse.Reads as refuse-reads
-use Rattle.two_runs.proofs.runs_between.Reads as runs-between-reads
 
--- src/lib.rt:170:8
 is-pair-requires : tie.Need-is-pair-requires
 is-pair-requires c κs = search needs
 
--- src/lib.rt:171:9
 runs-between-requires : tie.Need-runs-between-requires
 runs-between-requires c κs =
-    (c .before .before .before .before .before .before .before .pre, c .before .before .before .is-pair .ensures .0 (c .before .before .if1 .taken))
+    let c3 = c .before .before .before in
+    let c7 = c3 .before .before .before .before in
+    (c7 .pre, c3 .is-pair .ensures .0 (c .before .before .if1 .taken))
 
--- src/lib.rt:171:9
 same-length : tie.Need-same-length
 same-length c = search needs
 
--- src/lib.rt:171:9
 same-length-2 : tie.Need-same-length-2
 same-length-2 c = search needs
 
--- src/lib.rt:171:9
 returns : tie.Need-returns
 returns c = search needs
 
--- src/lib.rt:173:9
 refuse-requires : tie.Need-refuse-requires
-refuse-requires c κs = (c .before .before .before .before .before .pre, c .before .is-pair .ensures .1 (c .if1 .left))
+refuse-requires c κs =
+    let c5 = c .before .before .before .before .before in
+    (c5 .pre, c .before .is-pair .ensures .1 (c .if1 .left))
 
--- src/lib.rt:153:1
 returns-2 : tie.Need-returns-2
 returns-2 c = call-unpaired _ _ _ _ _ (sym (c .refuse .ensures))
 

@@ -1,82 +1,76 @@
-use Rattle.two_runs.proofs.Found.{readable-runnable, accepted-pair, run-found}
-use Rattle.two_runs.proofs.Answers.{pair-unordered, call-ordered}
-use Rattle.pair_order.proofs.Answers.{readable-operations, readable-left-out, worker-low}
-use Rattle.index.proofs.Lookups.{holds-places}
-use Rattle.trace.specs.Reading.{traceOf}
-use mathlib.Core.Path.{_≡_, refl, sym, _∙_}
-use mathlib.Core.Logic.{inl, inr}
+-- `runs_if_unordered` meets its contract. Assumes nothing.
+use mathlib.Core.Logic.{inl}
+use mathlib.Core.Path.{refl, sym, _∙_}
 use borrow.Author.Needs.{needs}
+use Rattle.trace.specs.Reading.{traceOf}
+use Rattle.index.proofs.Lookups.{holds-places}
+use Rattle.pair_order.proofs.Answers.{readable-operations, readable-left-out, worker-low}
+use Rattle.two_runs.proofs.Answers.{pair-unordered, call-ordered}
+use Rattle.two_runs.proofs.Found.{readable-runnable, accepted-pair, run-found}
 use Rattle.two_runs.proofs.runs_if_unordered.Statement.{statement}
 use Rattle.two_runs.proofs.runs_if_unordered.Tie as tie
-use Rattle.two_runs.proofs.runs_if_unordered.Reads as reads
-use Rattle.two_runs.proofs.runs_if_unordered.Lts as lts
-use Rattle.pair_order.proofs.must_precede.Reads as must-precede-reads
-use Rattle.pair_order.proofs.rank_of.Reads as rank-of-reads
-use Rattle.run_writer.proofs.write_run.Reads as write-run-reads
-use Rattle.trace.proofs.worker_of.Reads as worker-of-reads
-use Rattle.two_runs.proofs.runs_if_room.Reads as runs-if-room-reads
 
--- src/lib.rt:93:9
 rank-of-requires : tie.Need-rank-of-requires
 rank-of-requires c κs = search needs
 
--- src/lib.rt:94:13
 worker-of-requires : tie.Need-worker-of-requires
 worker-of-requires c κs = search needs
 
--- src/lib.rt:94:13
 cast-q : tie.Need-cast-q
 cast-q c = search needs
 
--- src/lib.rt:95:9
 write-run-requires : tie.Need-write-run-requires
 write-run-requires c κs =
-    let (accepted, x, y, e, f) = c .before .before .before .before .before .before .pre in
+    let c6 = c .before .before .before .before .before .before in
+    let (accepted, x, y, e, f) = c6 .pre in
     let own = c .before .worker-of .ensures in
     let low = worker-low (readable-operations x) (y .first-below) own in
     (x .holds .most, low .0, readable-runnable x (y .first-below) own (c .before .before .rank-of .ensures), refl)
 
--- src/lib.rt:97:8
 must-precede-requires : tie.Need-must-precede-requires
 must-precede-requires c κs =
-    let (accepted, x, y, e, f) = c .before .before .before .before .before .before .before .before .before .pre in
-    let t = traceOf (c .before .before .before .before .before .before .before .before .before .args .file .now) in
+    let c4 = c .before .before .before .before in
+    let c9 = c4 .before .before .before .before .before in
+    let (accepted, x, y, e, f) = c9 .pre in
+    let t = traceOf (c9 .args .file .now) in
     let places = holds-places (x .holds) (x .handed .indexed) in
-    let left = readable-left-out x (y .first-below) (c .before .before .before .before .worker-of .ensures) (c .before .before .before .before .before .rank-of .ensures) in
+    let left = readable-left-out x (y .first-below) (c4 .worker-of .ensures) (c4 .before .rank-of .ensures) in
     let w = c .before .before .write-run .ensures t _ _ (x .holds .few) places left in
     (readable-operations x, w .without-b, y .second-below, y .differ)
 
--- src/lib.rt:98:9
 returns : tie.Need-returns
 returns c =
-    let (accepted, x, y, e, f) = c .before .before .before .before .before .before .before .before .before .before .before .pre in
-    call-ordered _ _ _ _ _ (accepted-pair accepted (x .holds) y) (inl (sym (c .before .must-precede .ensures) ∙ c .if1 .taken))
+    let c11 = c .before .before .before .before .before .before .before .before .before .before .before in
+    let (accepted, x, y, e, f) = c11 .pre in
+    call-ordered _ _ _ _ _ (accepted-pair accepted (x .holds) y)
+    (inl (sym (c .before .must-precede .ensures) ∙ c .if1 .taken))
 
--- src/lib.rt:103:5
 runs-if-room-requires : tie.Need-runs-if-room-requires
 runs-if-room-requires c κs =
-    let (accepted, x, y, e, f) = c .before .before .before .before .before .before .before .before .before .before .before .before .before .before .pre in
-    let t = traceOf (c .before .before .before .before .before .before .before .before .before .before .before .before .before .before .args .file .now) in
+    let c3 = c .before .before .before in
+    let c7 = c3 .before .before .before .before in
+    let c10 = c7 .before .before .before in
+    let c14 = c10 .before .before .before .before in
+    let (accepted, x, y, e, f) = c14 .pre in
+    let t = traceOf (c14 .args .file .now) in
     let places = holds-places (x .holds) (x .handed .indexed) in
-    let left = readable-left-out x (y .first-below) (c .before .before .before .before .before .before .before .before .before .worker-of .ensures) (c .before .before .before .before .before .before .before .before .before .before .rank-of .ensures) in
-    let w = c .before .before .before .before .before .before .before .write-run .ensures t _ _ (x .holds .few) places left in
+    let left = readable-left-out x (y .first-below) (c7 .before .before .worker-of .ensures) (c10 .rank-of .ensures) in
+    let w = c7 .write-run .ensures t _ _ (x .holds .few) places left in
     record {
-      unordered = pair-unordered (accepted-pair accepted (x .holds) y) (sym (c .before .before .before .before .must-precede .ensures) ∙ c .before .before .before .if1 .left) e;
+      unordered = pair-unordered (accepted-pair accepted (x .holds) y)
+          (sym (c3 .before .must-precede .ensures) ∙ c3 .if1 .left) e;
       workers = _;
       holds = x .holds;
       b-late = f;
       a-late = run-found accepted (x .holds) w;
     }
 
--- src/lib.rt:70:1
 same-length : tie.Need-same-length
 same-length c = search needs
 
--- src/lib.rt:70:1
 same-length-2 : tie.Need-same-length-2
 same-length-2 c = search needs
 
--- src/lib.rt:70:1
 returns-2 : tie.Need-returns-2
 returns-2 c = search needs
 

@@ -1,47 +1,37 @@
-use Rattle.two_runs.proofs.Answers.{call-refused}
-use Rattle.accept.proofs.Accepting.{answer-unread}
-use Rattle.reader.proofs.Answers.{answer-holds, answer-refused}
+-- `two_runs` meets its contract. Assumes nothing.
 use mathlib.Core.Path.{sym, _∙_}
 use borrow.Author.Needs.{needs}
+use Rattle.accept.proofs.Accepting.{answer-unread}
+use Rattle.reader.proofs.Answers.{answer-holds, answer-refused}
+use Rattle.two_runs.proofs.Answers.{call-refused}
 use Rattle.two_runs.proofs.two_runs.Statement.{statement}
 use Rattle.two_runs.proofs.two_runs.Tie as tie
-use Rattle.two_runs.proofs.two_runs.Reads as reads
-use Rattle.two_runs.proofs.two_runs.Lts as lts
-use Rattle.accept.proofs.read_index.Reads as read-index-reads
-use Rattle.two_runs.proofs.runs_if_pair.Reads as runs-if-pair-reads
 
--- src/lib.rt:190:11
 read-index-requires : tie.Need-read-index-requires
 read-index-requires c κs = search needs
 
--- src/lib.rt:192:13
 enum-known-workers : tie.Need-enum-known-workers
 enum-known-workers c = search needs
 
--- src/lib.rt:194:14
 runs-if-pair-requires : tie.Need-runs-if-pair-requires
 runs-if-pair-requires c κs =
-    let (r, x) = c .before .before .before .before .before .before .before .before .before .read-index .ensures in
-    let h = answer-holds _ _ _ (sym r ∙ c .before .before .before .before .before .before .before .workers .given .1) in
+    let c7 = c .before .before .before .before .before .before .before in
+    let (r, x) = c7 .before .before .read-index .ensures in
+    let h = answer-holds _ _ _ (sym r ∙ c7 .workers .given .1) in
     record { holds = h; handed = x .handed h }
 
--- src/lib.rt:195:31
 enum-known-number : tie.Need-enum-known-number
 enum-known-number c = search needs
 
--- src/lib.rt:182:1
 same-length : tie.Need-same-length
 same-length c = search needs
 
--- src/lib.rt:182:1
 same-length-2 : tie.Need-same-length-2
 same-length-2 c = search needs
 
--- src/lib.rt:182:1
 returns : tie.Need-returns
 returns c = search needs
 
--- src/lib.rt:182:1
 returns-2 : tie.Need-returns-2
 returns-2 c =
     let (r, x) = c .before .before .before .read-index .ensures in
