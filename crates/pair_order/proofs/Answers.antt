@@ -66,8 +66,8 @@ module _ (t : Trace) (a b : ℕ) {forward : Bool} (i : forward ≡ mustPrecedeIn
     ordered-neither f = rw (order-neither t a b (sym i ∙ e) (sym j ∙ f))
 
 -- worker and place of an operation, for the walk without it
-module _ {bytes : List ℕ} {p n : ℕ} {order starts list ends : List ℕ} (x : Readable bytes p n order starts list ends)
-    where
+module _ {bytes : List ℕ} {p n : ℕ} {order starts list ends : List ℕ}
+    (x : Readable bytes p n order starts list ends) where
   pub readable-operations : Operations bytes n order starts
   readable-operations = record { workers = p; holds = x .holds; indexed = x .handed .indexed }
 

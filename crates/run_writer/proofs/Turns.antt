@@ -30,8 +30,8 @@ use Rattle.states.proofs.Ends.{run-count}
 use Rattle.walk.specs.Going.{Going, stretch, Turned}
 use Rattle.run_writer.specs.Writing.{Written, Writing}
 
-module _ {t : Trace} {n : ℕ} {order starts : List ℕ} (x : Places t n order starts) {q : ℕ} (known : q < t .workers)
-    where
+module _ {t : Trace} {n : ℕ} {order starts : List ℕ} (x : Places t n order starts)
+    {q : ℕ} (known : q < t .workers) where
   low : q < 16
   low = omega (arith, known, x .fits .most)
 
@@ -86,8 +86,11 @@ module _ {t : Trace} {n : ℕ} {order starts : List ℕ} (x : Places t n order s
       → getD counts q 0 ≤ count (workerOf t) q (upTo n)
   count-most {r = r} y =
       let inside : r ⊆ upTo n = record { all = λ m. upTo-in n (rw (← x .count) (y .is-run .below m)) } in
-      omega (arith, run-count (y .is-run) (y .shows) q, different-count (λ z. eqb (workerOf t z) q)
-      (y .is-run .different) inside)
+      omega (
+        arith,
+        run-count (y .is-run) (y .shows) q,
+        different-count (λ z. eqb (workerOf t z) q) (y .is-run .different) inside,
+      )
 
 -- ---- one turn more
 

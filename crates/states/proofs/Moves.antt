@@ -102,8 +102,10 @@ module _ {t : Trace} {d counts events : List ℕ} (s : Shows t d counts events) 
           rw (e ∙ sym (s .counted (workerOf t y))) at (own-at t y (i .below))
 
       both : T (rule t .may d y) × T (not (eqb y a))
-      both = (and-left (rule t .may d y) (not (eqb y a)) (i .allowed), and-right (rule t .may d y) (not (eqb y a))
-          (i .allowed))
+      both = (
+        and-left (rule t .may d y) (not (eqb y a)) (i .allowed),
+        and-right (rule t .may d y) (not (eqb y a)) (i .allowed),
+      )
 
       addable-free : Free t events y
       addable-free =

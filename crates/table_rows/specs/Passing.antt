@@ -14,8 +14,8 @@ use Rattle.walk.specs.Going.{Going}
 use Rattle.table_rows.specs.Filling.{RowsOf}
 
 -- worker q has done i operations, the next is left out, its list goes on from entry `own`, and nobody is ready
-pub record Own (t : Trace) (list ends lasts nexts counts : List ℕ) (q own i : ℕ) (events waiting : List ℕ) : Type 0
-    where
+pub record Own (t : Trace) (list ends lasts nexts counts : List ℕ) (q own i : ℕ)
+    (events waiting : List ℕ) : Type 0 where
   pub fits : Fits t
   pub run : List ℕ
   pub complete : CompleteRunOf t run
@@ -26,8 +26,8 @@ pub record Own (t : Trace) (list ends lasts nexts counts : List ℕ) (q own i : 
   pub going : Going t (operationAt t q i) q so-far list ends lasts nexts (set counts q i) events waiting 0
 
 -- its steps before entry `at` have freed nobody: the rows up to there differ in the own count alone
-pub record OwnTo (t : Trace) (list ends lasts nexts counts : List ℕ) (q i at : ℕ) (events waiting : List ℕ) : Type 0
-    where
+pub record OwnTo (t : Trace) (list ends lasts nexts counts : List ℕ) (q i at : ℕ)
+    (events waiting : List ℕ) : Type 0 where
   pub upto : i ≤ reached list (getD ends q 0) (getD lasts q 0) at
   pub most : reached list (getD ends q 0) (getD lasts q 0) at ≤ getD lasts q 0
   pub follows : Follows t (size t) list q at (getD ends q 0) (getD lasts q 0)
@@ -58,11 +58,11 @@ pub record PassesOwn (list : List ℕ) (q own end last : ℕ) (events waiting ev
       → OwnPassed t list ends lasts nexts counts q i at to events′ waiting′ freed
 
 -- on the way
-pub record PassingOwn (list : List ℕ) (q own end last : ℕ) (events waiting events′ waiting′ : List ℕ) (at : ℕ) : Type 0
-  where
-    pub inside : at ≤ end
-    pub words : length events′ ≡ 4
-    pub room : length waiting′ ≡ 256
-    pub passing : (t : Trace) (ends lasts nexts counts : List ℕ) (i : ℕ) → getD ends q 0 ≡ end → getD lasts q 0 ≡ last
-        → Own t list ends lasts nexts counts q own i events waiting
-        → OwnTo t list ends lasts nexts counts q i at events′ waiting′
+pub record PassingOwn (list : List ℕ) (q own end last : ℕ) (events waiting events′ waiting′ : List ℕ)
+    (at : ℕ) : Type 0 where
+  pub inside : at ≤ end
+  pub words : length events′ ≡ 4
+  pub room : length waiting′ ≡ 256
+  pub passing : (t : Trace) (ends lasts nexts counts : List ℕ) (i : ℕ) → getD ends q 0 ≡ end → getD lasts q 0 ≡ last
+      → Own t list ends lasts nexts counts q own i events waiting
+      → OwnTo t list ends lasts nexts counts q i at events′ waiting′

@@ -101,8 +101,8 @@ module _ (t : Trace) (a q : ℕ) (low : q < 16) (r counts : List ℕ) where
 
   module _ {m : ℕ} {events : List ℕ} (on : getD counts q 0 ≤ m)
       (x : EndsRun t a (r ++ stretch t q (getD counts q 0) m) (set counts q m) events)
-      (below : operationAt t q m < size t) (other : operationAt t q m ≢ a) (free : Free t events (operationAt t q m))
-      where
+      (below : operationAt t q m < size t) (other : operationAt t q m ≢ a)
+      (free : Free t events (operationAt t q m)) where
     room : q < length counts
     room = omega (arith, low, sym (length-set counts q m) ∙ x .shows .counters)
 

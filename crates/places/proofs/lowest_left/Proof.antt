@@ -37,7 +37,7 @@ loop-again c =
     let few = c .before .before .loop-test .taken in (
       omega (arith, few),
       λ t x e. lowest-new t (c .before .before .before .before .args .done .now) _
-      (c .before .before .before .loop .inv .1 t x e)
+          (c .before .before .before .loop .inv .1 t x e)
           (c .before .next-operation .ensures t x (omega (arith, few, e))) (c .if1 .taken),
     )
 
@@ -49,7 +49,7 @@ loop-again-2 c =
     let few = c .before .before .loop-test .taken in (
       omega (arith, few),
       λ t x e. lowest-old t (c .before .before .before .before .args .done .now) _
-      (c .before .before .before .loop .inv .1 t x e)
+          (c .before .before .before .loop .inv .1 t x e)
           (c .before .next-operation .ensures t x (omega (arith, few, e))) (c .if1 .left),
     )
 

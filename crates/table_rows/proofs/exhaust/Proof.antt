@@ -26,9 +26,10 @@ returns c =
 
 returns-2 : tie.Need-returns-2
 returns-2 c =
-    let e = c .if1 .left in
-    (c .before .args .from, rw e (walked-start (sized-own (c .before .args .q) (c .before .args .from)
-    (c .before .pre .0))))
+    let e = c .if1 .left in (
+      c .before .args .from,
+      rw e (walked-start (sized-own (c .before .args .q) (c .before .args .from) (c .before .pre .0))),
+    )
 
 pub exhaust-spec : {M : Type 1} → statement M
 exhaust-spec =

@@ -95,9 +95,11 @@ exhaust-requires c κs =
     let c15 = c5 .before .before .before .before .before .before .before .before .before .before in
     let c19 = c15 .before .before .before .before in
     let (x, hq) = c19 .pre in
-    let few = c5 .before .before .index3 .ensures .1 in
-    (own-sized _ _ _ (c5 .before .loop .inv .sized), omega (arith, hq, x .holds .most), omega
-    (arith, few, c5 .loop-test .taken))
+    let few = c5 .before .before .index3 .ensures .1 in (
+      own-sized _ _ _ (c5 .before .loop .inv .sized),
+      omega (arith, hq, x .holds .most),
+      omega (arith, few, c5 .loop-test .taken),
+    )
 
 pass-own-requires : tie.Need-pass-own-requires Inv-loop μ-loop
 pass-own-requires c κs =

@@ -39,9 +39,11 @@ loop-again : tie.Need-loop-again Inv-loop μ-loop
 loop-again c =
     let (few, inside, room) = c .before .before .before .pre in
     let (up, w) = c .before .before .loop .inv in
-    let l = c .before .loop-test .taken in
-    (omega (arith, l), written-copy (c .before .before .before .args .run .now) w 0 (omega (arith, l, inside))
-    (omega (arith, l, room, w .size)))
+    let l = c .before .loop-test .taken in (
+      omega (arith, l),
+      written-copy (c .before .before .before .args .run .now) w 0 (omega (arith, l, inside))
+          (omega (arith, l, room, w .size)),
+    )
 
 same-length : tie.Need-same-length Inv-loop μ-loop
 same-length c = search needs
