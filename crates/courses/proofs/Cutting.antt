@@ -2,17 +2,16 @@
 -- becomes the list's end, with a's rank. In order: another worker's list; its own, cut; made whole again.
 use mathlib.Core.List.{List}
 use mathlib.Core.Logic.{_⊎_, inl, inr, _≢_}
-use mathlib.Core.Path.{_≡_, refl, sym, ap, _∙_}
+use mathlib.Core.Path.{_≡_, sym, ap, _∙_}
 use native.Mathlib.Omega.{arith}
 use Prim.Native.Nat.{ℕ, _+_, _-_, _<_, _≤_}
-use lib.ListN.{length, getD, set}
-use lib.Seq.{getD-set-same, getD-set-other}
+use lib.ListN.{getD}
 use Rattle.basics.proofs.Booleans.{equal?, less?}
 use Rattle.runs.specs.Workers.{earlier}
 use Rattle.trace.specs.Trace.{Trace, size, workerOf}
 use Rattle.index.specs.Steps.{operationAt, ahead, Plain, Between, reached, Step, Follows}
 use Rattle.index.proofs.Covering.{reached-in, reached-end}
-use Rattle.index.proofs.Operations.{at-rth, at-most, at-inside, own-at}
+use Rattle.index.proofs.Operations.{at-rth, at-most, at-inside}
 use Rattle.courses.specs.Courses.{Entry}
 
 -- ---- where a was left out, and b is now, neither of worker q's operations there

@@ -2,20 +2,20 @@
 -- that was left out is let in.
 use mathlib.Core.List.{List, []}
 use mathlib.Core.Logic.{_⊎_, inl, inr, _≢_}
-use mathlib.Core.Path.{_≡_, refl, sym, ap, _∙_}
+use mathlib.Core.Path.{_≡_, sym, _∙_}
 use native.Mathlib.Omega.{arith}
 use Prim.Native.Nat.{ℕ, _+_, _-_, _<_, _≤_}
 use lib.ListN.{length, getD, set, replicate, length-set}
 use lib.Seq.{getD-set-same, getD-set-other}
 use Rattle.basics.proofs.Bits.{zeros}
-use Rattle.basics.proofs.Booleans.{equal?, less?}
+use Rattle.basics.proofs.Booleans.{equal?}
 use Rattle.trace.specs.Premises.{Fits}
 use Rattle.trace.specs.Trace.{Trace, size, workerOf}
 use Rattle.masks.specs.Masks.{_isIn_, Below, With}
 use Rattle.masks.proofs.Sets.{in-none}
 use Rattle.index.specs.Filling.{Copied}
 use Rattle.index.specs.Steps.{operationAt, Follows, Listed}
-use Rattle.index.proofs.Operations.{at-rth, own-at}
+use Rattle.index.proofs.Operations.{own-at}
 use Rattle.states.specs.States.{nextOf}
 use Rattle.states.proofs.Runs.{ends-start, ends-whole}
 use Rattle.walk.specs.Going.{Stopped, at-end, at-left-out, at-event, Awake, Going, Sized}

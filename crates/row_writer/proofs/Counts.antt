@@ -2,10 +2,10 @@
 -- overlap.
 use mathlib.Core.List.{List, _++_}
 use mathlib.Core.Logic.{inl, inr}
-use mathlib.Core.Path.{_≡_, refl, sym, ap, _∙_}
+use mathlib.Core.Path.{_≡_, sym, _∙_}
 use native.Mathlib.Omega.{arith}
 use Prim.Native.Nat.{ℕ, suc, _+_, _-_, _<_, _≤_}
-use lib.ListN.{length, getD, set, take, drop, length-append, length-drop, List·getD-append}
+use lib.ListN.{length, getD, set, take, drop, length-drop, List·getD-append}
 use lib.Seq.{paste, paste-suc, length-paste, length-paste-head, getD-append-add, getD-take, getD-drop, length-take-le}
 use lib.Seq.{ext-getD}
 use Rattle.basics.proofs.Booleans.{less?}

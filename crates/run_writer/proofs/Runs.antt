@@ -1,14 +1,12 @@
 -- The run that holds an operation back, in two walks. In order: the start; the operation is let in; the run.
-use mathlib.Core.List.{List, [], _∷_, _++_, append-nil}
-use mathlib.Core.Path.{_≡_, refl, sym, ap, _∙_}
-use native.Mathlib.Omega.{arith}
-use Prim.Native.Nat.{ℕ, _+_, _-_, _<_, _≤_}
-use lib.ListN.{length, getD, set, take, replicate}
+use mathlib.Core.List.{List, [], _++_, append-nil}
+use mathlib.Core.Path.{_≡_, refl}
+use Prim.Native.Nat.{ℕ, _+_, _-_, _<_}
+use lib.ListN.{length, getD, set, replicate}
 use Rattle.runs.specs.Workers.{HoldsBack, no-step}
 use Rattle.runs.proofs.Done.{done-append}
 use Rattle.runs.proofs.HoldingBack.{holds-back-unique}
 use Rattle.runs.proofs.LowestWorker.{lowest-ends, lowest-whole, closed-whole}
-use Rattle.trace.specs.Premises.{Fits}
 use Rattle.trace.specs.Trace.{Trace, size, workerOf}
 use Rattle.masks.specs.Masks.{Below, With}
 use Rattle.model.specs.Computed.{heldBackRun}
@@ -16,7 +14,6 @@ use Rattle.model.specs.Rule.{rule}
 use Rattle.model.proofs.RuleLaws.{rule-monotone, rule-in-turn, order-ascending, order-preference}
 use Rattle.index.specs.Filling.{Copied}
 use Rattle.states.proofs.Answers.{workers-known}
-use Rattle.walk.specs.Going.{Sized}
 use Rattle.walk.proofs.Turns.{going-closed, going-exhausted}
 use Rattle.courses.specs.Courses.{Opens, Begun, Cut, LeftOut}
 use Rattle.courses.proofs.Starting.{start-sized, cut-opens, let-in-sized, courses-cut, going-start, going-let-in}

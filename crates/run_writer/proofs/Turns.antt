@@ -1,8 +1,8 @@
 -- A run written turn by turn. In order: a stretch of the order; how far a worker can get; one turn more;
 -- one number more.
 use mathlib.Core.Bool.{true}
-use mathlib.Core.List.{List, [], _∷_, _++_, append-assoc}
-use mathlib.Core.Logic.{inl, _≢_}
+use mathlib.Core.List.{List, [], _++_, append-assoc}
+use mathlib.Core.Logic.{inl}
 use mathlib.Core.Path.{_≡_, refl, sym, ap, _∙_}
 use native.Mathlib.Numerals.{add-one}
 use native.Mathlib.Omega.{arith}
@@ -10,10 +10,7 @@ use Prim.Native.Nat.{ℕ, _+_, _-_, _<_, _≤_}
 use lib.Dec.{eqb}
 use lib.ListN.{length, getD, set, take, drop, length-append, length-drop}
 use lib.Seq.{ext-getD, getD-take, getD-drop, length-take-le, paste, paste-suc, take-paste, length-paste}
-use Rattle.basics.specs.Membership.{_⊆_, upTo, countIf}
-use Rattle.runs.specs.Rule.{without}
-use Rattle.runs.specs.Run.{Run}
-use Rattle.runs.specs.Steps.{done}
+use Rattle.basics.specs.Membership.{_⊆_, upTo}
 use Rattle.runs.specs.Workers.{count, operationsOf}
 use Rattle.runs.proofs.Done.{done-append}
 use Rattle.runs.proofs.Lengths.{different-count, upTo-in}
@@ -22,7 +19,6 @@ use Rattle.runs.proofs.Places.{operationsOf-length}
 use Rattle.runs.proofs.RunSteps.{run-length}
 use Rattle.trace.specs.Trace.{Trace, size, workerOf}
 use Rattle.masks.specs.Masks as masks
-use Rattle.model.specs.Rule.{rule}
 use Rattle.index.specs.Indexed.{Places}
 use Rattle.index.proofs.Lookups.{part-count, part-numbers, part-start, places-inside}
 use Rattle.states.specs.States.{EndsRun}

@@ -1,8 +1,7 @@
 -- Keeping a walk along one worker, where the trace has a complete run: from the end of the walk without an operation,
 -- by that operation, to a state from which the walk without the worker's next one goes on.
-use mathlib.Core.Bool.{true}
 use mathlib.Core.List.{List, [], _∷_, _++_}
-use mathlib.Core.Path.{_≡_, sym, _∙_}
+use mathlib.Core.Path.{_≡_, _∙_}
 use native.Mathlib.Omega.{arith}
 use Prim.Native.Nat.{ℕ, _+_, _<_}
 use lib.ListN.{getD, set}

@@ -1,6 +1,6 @@
 -- The state of a walk shows the operations that are done. In order: at the start; after one operation more; an
 -- operation that can be added; one that cannot.
-use mathlib.Core.Bool.{Bool, true, false, not, _&&_, _||_}
+use mathlib.Core.Bool.{not}
 use mathlib.Core.List.{List, [], _∷_}
 use mathlib.Core.Logic.{_⊎_, inl, inr, _≢_}
 use mathlib.Core.Path.{_≡_, refl, sym, ap, _∙_}
@@ -8,7 +8,7 @@ use native.Mathlib.Numerals.{add-one}
 use native.Mathlib.Omega.{arith}
 use Prim.Native.Nat.{ℕ, _+_, _<_, _≤_}
 use lib.Dec.{T, eqb, eqb-refl, not-T, T-not, eqb→eq}
-use lib.ListN.{length, getD, set, replicate, length-set}
+use lib.ListN.{getD, set, replicate, length-set}
 use lib.Seq.{getD-set-same, getD-set-other}
 use Rattle.basics.proofs.Bits.{zeros}
 use Rattle.basics.proofs.Booleans.{equal?, less?, and-left, and-right, and-intro, test-true, zero-one}
@@ -19,12 +19,10 @@ use Rattle.runs.proofs.Counts.{count-own, count-other, addable-next, next-turn,
 use Rattle.runs.proofs.ProgramOrder.{without-in-turn}
 use Rattle.trace.specs.Premises.{Fits}
 use Rattle.trace.specs.Trace.{Trace, size, workerOf}
-use Rattle.events.specs.Events.{isPosted}
 use Rattle.events.proofs.EventBits.{posted-start}
-use Rattle.model.specs.Rule.{needs, posted, unblocked, rule}
+use Rattle.model.specs.Rule.{unblocked, rule}
 use Rattle.model.proofs.RuleLaws.{rule-in-turn, unblocked-needs}
 use Rattle.index.specs.Indexed.{Rth}
-use Rattle.index.specs.Steps.{operationAt}
 use Rattle.index.proofs.Operations.{at-rth, own-at}
 use Rattle.states.specs.States.{Shows, nextOf, Free, Blocked, no-more, left-out, waits, Posted}
 

@@ -2,13 +2,11 @@
 -- end; with nothing left out.
 use mathlib.Core.List.{List, [], _∷_, _++_}
 use mathlib.Core.Logic.{_≢_}
-use mathlib.Core.Path.{_≡_, sym}
 use native.Mathlib.Omega.{arith}
 use Prim.Native.Nat.{ℕ, _+_, _<_}
 use lib.ListN.{getD, set, replicate}
 use Rattle.basics.specs.Membership.{_∉_}
 use Rattle.runs.specs.Rule.{without}
-use Rattle.runs.specs.Run.{Run}
 use Rattle.runs.specs.Steps.{Addable, done}
 use Rattle.runs.specs.Workers.{Counted}
 use Rattle.runs.proofs.Counts.{run-counted}

@@ -2,7 +2,7 @@
 -- Follows: document 01, "Runs": "the state of a walk is how many operations each worker has done, and the set of posted
 -- events".
 -- Differs: nowhere. A means: no contract of a call speaks of it.
-use mathlib.Core.Bool.{Bool, true, false, _||_, cond}
+use mathlib.Core.Bool.{true, false, _||_, cond}
 use mathlib.Core.List.{List, []}
 use mathlib.Core.Path.{_≡_}
 use Prim.Native.Nat.{ℕ, zero, suc}

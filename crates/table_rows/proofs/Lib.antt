@@ -4,6 +4,7 @@
 pub mod Rows
 pub mod Stretch
 pub mod Own
+pub mod OwnSteps
 pub mod Passing
 pub mod Keeping
 pub mod Filling

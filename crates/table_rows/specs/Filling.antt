@@ -1,11 +1,9 @@
 -- Filling the table worker by worker: what the inner functions know, and what they do.
 -- Follows: document 01, "Order table and order".
 -- Differs: nowhere. Means: the call's contract speaks of none of these.
-use mathlib.Core.Bool.{cond}
 use mathlib.Core.List.{List, _++_}
 use mathlib.Core.Path.{_≡_}
 use Prim.Native.Nat.{ℕ, _+_, _*_, _<_, _≤_}
-use lib.Dec.{ltb}
 use lib.ListN.{length, getD, set, take, drop}
 use Rattle.runs.specs.Workers.{earlier}
 use Rattle.trace.specs.Premises.{HoldsTrace}
@@ -13,7 +11,7 @@ use Rattle.trace.specs.Reading.{traceOf}
 use Rattle.trace.specs.Trace.{Trace, size, workerOf}
 use Rattle.model.specs.Computed.{row}
 use Rattle.index.specs.Indexed.{Places}
-use Rattle.index.specs.Steps.{operationAt, ahead, Handed}
+use Rattle.index.specs.Steps.{operationAt, Handed}
 use Rattle.accept.specs.Acceptance.{AcceptedTrace}
 
 -- an accepted file with its index, and a table that holds n × p numbers

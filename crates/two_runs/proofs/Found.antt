@@ -1,15 +1,13 @@
 -- The runs before they are written to the buffers. In order: what the writer of a run asks; the pair; a run found;
 -- both.
 use mathlib.Core.List.{List}
-use mathlib.Core.Path.{_≡_, sym, _∙_}
-use native.Mathlib.Omega.{arith}
-use Prim.Native.Nat.{ℕ, _<_, _≤_}
-use lib.ListN.{length, take}
+use mathlib.Core.Path.{_≡_, _∙_}
+use Prim.Native.Nat.{ℕ, _<_}
+use lib.ListN.{take}
 use Rattle.runs.specs.Workers.{earlier}
 use Rattle.trace.specs.Premises.{HoldsTrace}
 use Rattle.trace.specs.Reading.{traceOf}
 use Rattle.trace.specs.Trace.{workerOf}
-use Rattle.model.specs.Computed.{heldBackRun}
 use Rattle.model.proofs.HeldBack.{held-back-length}
 use Rattle.index.proofs.Lookups.{holds-places}
 use Rattle.accept.specs.Acceptance.{AcceptedTrace}

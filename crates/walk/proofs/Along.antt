@@ -2,20 +2,19 @@
 -- event that is not posted; at the end.
 use mathlib.Core.Bool.{Bool, true, false, not, _&&_}
 use mathlib.Core.List.{List}
-use mathlib.Core.Logic.{_⊎_, inl, inr, _≢_}
-use mathlib.Core.Path.{_≡_, refl, sym, _∙_}
+use mathlib.Core.Logic.{inl, inr}
+use mathlib.Core.Path.{_≡_, refl, _∙_}
 use native.Mathlib.Omega.{arith}
 use Prim.Native.Nat.{ℕ, _+_, _%_, _<_, _≤_}
 use lib.Bits.{bitOr}
-use lib.Dec.{eqb}
 use lib.ListN.{length, getD, set}
 use borrow.Author.Tests.{eq-eqb}
 use Rattle.basics.proofs.Booleans.{zero-one}
 use Rattle.trace.specs.Trace.{Trace}
 use Rattle.events.specs.Events.{isPosted, withPost}
-use Rattle.masks.specs.Masks.{_isIn_, With, Apart}
-use Rattle.masks.proofs.Sets.{in-none, in-either}
-use Rattle.index.specs.Steps.{operationAt, ahead, holds, event, reached, Follows, Step}
+use Rattle.masks.specs.Masks.{With, Apart}
+use Rattle.masks.proofs.Sets.{in-either}
+use Rattle.index.specs.Steps.{operationAt, ahead, holds, event, reached, Follows}
 use Rattle.index.proofs.Covering.{reached-in, reached-end, between-none}
 use Rattle.states.specs.States.{EndsRun, Blocked, nextOf}
 use Rattle.walk.specs.Going.{Stopped, at-end, at-left-out, at-event, Entered, Moved, LowerStopped, Lowest}

@@ -1,6 +1,6 @@
 -- The waiters while a worker goes on. In order: nobody is freed; an event is posted, and who waited for it is freed;
 -- the worker comes to wait; it is itself among those freed; who has stopped stays so, or is freed.
-use mathlib.Core.Bool.{true, false}
+use mathlib.Core.Bool.{false}
 use mathlib.Core.List.{List}
 use mathlib.Core.Logic.{_⊎_, inl, inr, _≢_}
 use mathlib.Core.Path.{_≡_, refl, sym, _∙_}

@@ -2,13 +2,12 @@
 -- same, as the lowest-numbered worker's; plain ones; a step.
 use mathlib.Core.Bool.{Bool, true, false, not, _&&_, _||_}
 use mathlib.Core.List.{List, [], _∷_, _++_, append-nil, append-assoc}
-use mathlib.Core.Logic.{_⊎_, inl, inr, _≢_}
-use mathlib.Core.Path.{_≡_, refl, sym, ap, _∙_}
-use native.Mathlib.Numerals.{add-one}
+use mathlib.Core.Logic.{_≢_}
+use mathlib.Core.Path.{_≡_, refl, sym, _∙_}
 use native.Mathlib.Omega.{arith}
 use Prim.Native.Nat.{ℕ, zero, suc, _+_, _-_, _<_, _≤_}
 use lib.Dec.{eqb}
-use lib.ListN.{length, getD, set, take, drop, length-set, length-drop}
+use lib.ListN.{length, getD, set, drop, length-set, length-drop}
 use lib.Seq.{take-suc, getD-drop, getD-set-same, getD-set-other, set-getD, set-set}
 use borrow.Author.Tests.{eqb-true}
 use Rattle.basics.proofs.Booleans.{both-true, zero-one}

@@ -2,7 +2,7 @@
 use mathlib.Core.Bool.{Bool, true}
 use mathlib.Core.List.{List, [], _∷_, _++_, append-nil, append-assoc}
 use mathlib.Core.Logic.{_⊎_, inl, inr, _≢_}
-use mathlib.Core.Path.{_≡_, refl, sym, _∙_}
+use mathlib.Core.Path.{_≡_, _∙_}
 use native.Mathlib.Nat.{not-suc-le-zero}
 use native.Mathlib.Omega.{arith}
 use Prim.Native.Nat.{ℕ, zero, suc, _+_, _-_, _*_, _<_, _≤_}
@@ -22,7 +22,7 @@ use Rattle.index.specs.Steps.{Follows}
 use Rattle.states.specs.States.{Exhausted, Blocked, nextOf}
 use Rattle.states.proofs.Moves.{blocked-closed}
 use Rattle.states.proofs.Runs.{ends-counted, ends-exhausted}
-use Rattle.walk.specs.Going.{Stopped, Awake, Going, stretch, Moved, LowerStopped, Lowest, Went, Sized, sum, left}
+use Rattle.walk.specs.Going.{Stopped, Awake, Going, stretch, Moved, Lowest, Went, Sized, sum, left}
 use Rattle.walk.specs.Going.{Turned, Walked}
 use Rattle.walk.proofs.Releasing.{still, stopped-blocked}
 

@@ -15,7 +15,7 @@ use Rattle.runs.specs.Steps.{done}
 use Rattle.runs.specs.Workers.{operationsOf, LowestSteps}
 use Rattle.trace.specs.Trace.{Trace, size, workerOf}
 use Rattle.events.specs.Events.{isPosted}
-use Rattle.masks.specs.Masks.{_isIn_, With, Apart}
+use Rattle.masks.specs.Masks.{_isIn_, With}
 use Rattle.model.specs.Rule.{needs, rule}
 use Rattle.index.specs.Steps.{operationAt, Follows}
 use Rattle.states.specs.States.{EndsRun, nextOf}

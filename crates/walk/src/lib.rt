@@ -1,10 +1,9 @@
 // Walks by a set of ready workers, along each worker's list of Posts and Waits. For the crates above, which have read
 // the file and filled its index before.
-ghost use mathlib.Core.Bool.{Bool, true, not, _&&_};
+ghost use mathlib.Core.Bool.{true, not, _&&_};
 ghost use mathlib.Core.Path.{_≡_};
 ghost use Prim.Native.Nat.{ℕ, _+_, _%_, _<_, _≤_};
 ghost use lib.ListN.{length, getD, set};
-ghost use Rattle.trace.specs.Trace.{Trace};
 ghost use Rattle.events.specs.Events.{isPosted, withPost};
 ghost use Rattle.masks.specs.Masks.{_isIn_, Lowest};
 ghost use Rattle.index.specs.Steps.{ahead, holds, event};

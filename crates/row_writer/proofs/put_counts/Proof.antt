@@ -1,7 +1,6 @@
 -- `put_counts` meets its contract. Assumes nothing.
 use mathlib.Core.Path.{_∙_}
 use native.Mathlib.Omega.{arith}
-use Prim.Native.Nat.{_-_}
 use lib.Seq.{length-paste}
 use borrow.Author.Needs.{needs}
 use Rattle.row_writer.proofs.Counts.{row-whole}

@@ -1,7 +1,7 @@
 -- `write_walk` meets its contract. The invariant: what the walk has added is written. Assumes nothing.
 use mathlib.Core.List.{List}
 use native.Mathlib.Omega.{arith}
-use Prim.Native.Nat.{ℕ, _-_, _≤_}
+use Prim.Native.Nat.{ℕ, _≤_}
 use borrow.Author.Needs.{needs}
 use Rattle.trace.specs.Trace.{Trace}
 use Rattle.index.specs.Indexed.{Places}
