@@ -1,5 +1,5 @@
 -- Lists cut at an operation a, which is left out: entry s of its worker's list, the first that does not stand before a,
--- becomes the list's end, with a's rank. In order: another worker's list; its own, cut; made whole again.
+-- becomes the list's end, with a's earlier operations. In order: another worker's list; its own, cut; made whole again.
 use mathlib.Core.List.{List}
 use mathlib.Core.Logic.{_⊎_, inl, inr, _≢_}
 use mathlib.Core.Path.{_≡_, sym, ap, _∙_}
@@ -60,28 +60,28 @@ ends-other t q a d j e = elim (less? (operationAt t q j) (size t)) [
 -- ---- the worker's own list
 
 module _ {t : Trace} {list : List ℕ} {q first end last : ℕ} (x : Follows t (size t) list q first end last 0)
-    {a rank s : ℕ}
-    (here : operationAt t q rank ≡ a) (below : a < size t) (y : Entry list first end rank s) where
+    {a prior s : ℕ}
+    (here : operationAt t q prior ≡ a) (below : a < size t) (y : Entry list first end prior s) where
   -- a stands at the entry, or before it
-  past : rank ≤ reached list end last s
-  past = go (less? s end) (less? last rank) (x .ending)
+  past : prior ≤ reached list end last s
+  past = go (less? s end) (less? last prior) (x .ending)
     where
-      go : (s < end) ⊎ (end ≤ s) → (last < rank) ⊎ (rank ≤ last)
-          → (operationAt t q last ≡ size t) ⊎ (operationAt t q last ≡ size t) → rank ≤ reached list end last s
+      go : (s < end) ⊎ (end ≤ s) → (last < prior) ⊎ (prior ≤ last)
+          → (operationAt t q last ≡ size t) ⊎ (operationAt t q last ≡ size t) → prior ≤ reached list end last s
       go (inl l) h e = rw (reached-in list last l) (y .past l)
       go (inr l) (inr h) e = rw (reached-end list last l) h
       go (inr l) (inl h) e =
-          let inside = at-inside t q rank last (rw here below) (omega arith) in
+          let inside = at-inside t q prior last (rw here below) (omega arith) in
           absurd (elim e [ inl z ↦ omega (arith, inside, z) | inr z ↦ omega (arith, inside, z) ])
 
-  other : (m : ℕ) → m < rank → operationAt t q m < size t → operationAt t q m ≢ a
+  other : (m : ℕ) → m < prior → operationAt t q m < size t → operationAt t q m ≢ a
   other m l h e =
       let r = at-rth t q m h in
-      let i = at-rth t q rank (rw here below) in
+      let i = at-rth t q prior (rw here below) in
       omega (arith, l, sym (r .ahead) ∙ ap (earlier (workerOf t)) (e ∙ sym here) ∙ i .ahead)
 
   -- up to a
-  between-cut : {b c d : ℕ} → Between t (size t) q b c → b ≤ d → d ≤ c → d ≤ rank → Between t a q b d
+  between-cut : {b c d : ℕ} → Between t (size t) q b c → b ≤ d → d ≤ c → d ≤ prior → Between t a q b d
   between-cut {b} {c} {d} z h l k =
       record {
         on = h;
@@ -95,19 +95,19 @@ module _ {t : Trace} {list : List ℕ} {q first end last : ℕ} (x : Follows t (
             };
       }
 
-  cut-to : {b j : ℕ} → first ≤ j → j ≤ s → b ≤ rank → Between t (size t) q b (reached list end last j)
-      → Between t a q b (reached list s rank j)
+  cut-to : {b j : ℕ} → first ≤ j → j ≤ s → b ≤ prior → Between t (size t) q b (reached list end last j)
+      → Between t a q b (reached list s prior j)
   cut-to {b} {j} f l h z = elim (less? j s) [
     | inl k ↦
         let lower = y .before j f k in
         let z′ = rw (reached-in list {end = end} last {s = j} (omega (arith, k, y .up-to))) at z in
-        rw (reached-in list rank k) (between-cut z′ (z′ .on) (omega arith) (omega (arith, lower)))
+        rw (reached-in list prior k) (between-cut z′ (z′ .on) (omega arith) (omega (arith, lower)))
     | inr k ↦
         let e : j ≡ s = omega (arith, k) in
-        rw (reached-end list rank k) (between-cut (rw e at z) h past (omega arith))
+        rw (reached-end list prior k) (between-cut (rw e at z) h past (omega arith))
   ]
 
-  pub cut-own : Follows t a list q first s rank 0
+  pub cut-own : Follows t a list q first s prior 0
   cut-own =
       record {
         up-to = y .from-on;
@@ -116,7 +116,7 @@ module _ {t : Trace} {list : List ℕ} {q first end last : ℕ} (x : Follows t (
         ending = inr here;
       }
     where
-      each : (j : ℕ) → first ≤ j → j < s → Step t a list q s rank j
+      each : (j : ℕ) → first ≤ j → j < s → Step t a list q s prior j
       each j f l =
           let z = x .each j f (omega (arith, y .up-to)) in
           let lower = y .before j f l in
@@ -131,7 +131,7 @@ module _ {t : Trace} {list : List ℕ} {q first end last : ℕ} (x : Follows t (
   -- ---- made whole again
 
   -- behind a, up to the entry
-  rest : (m : ℕ) → rank ≤ m → m < reached list end last s → Plain t (size t) (operationAt t q m)
+  rest : (m : ℕ) → prior ≤ m → m < reached list end last s → Plain t (size t) (operationAt t q m)
   rest m h l = elim (equal? s first) [
     | inl e ↦ x .first .each m (omega arith) (rw (← e) l)
     | inr n ↦
@@ -147,27 +147,27 @@ module _ {t : Trace} {list : List ℕ} {q first end last : ℕ} (x : Follows t (
   no-size : (j : ℕ) → operationAt t q j < size t → operationAt t q j ≢ size t
   no-size j l e = omega (arith, l, e)
 
-  whole-to : {b : ℕ} (j : ℕ) → j ≤ s → Between t a q b (reached list s rank j)
+  whole-to : {b : ℕ} (j : ℕ) → j ≤ s → Between t a q b (reached list s prior j)
       → Between t (size t) q b (reached list end last j)
   whole-to {b} j l z = elim (less? j s) [
     | inl k ↦
         rw (reached-in list {end = end} last {s = j} (omega (arith, k, y .up-to)))
-        (between-other t a (size t) q no-size (rw (reached-in list rank k) at z))
+        (between-other t a (size t) q no-size (rw (reached-in list prior k) at z))
     | inr k ↦
         let e : j ≡ s = omega (arith, k) in
-        rw e (on (rw (reached-end list rank k) at z))
+        rw e (on (rw (reached-end list prior k) at z))
   ]
     where
-      on : Between t a q b rank → Between t (size t) q b (reached list end last s)
+      on : Between t a q b prior → Between t (size t) q b (reached list end last s)
       on z = record { on = omega (arith, z .on, past); each = each }
         where
           each : (m : ℕ) → b ≤ m → m < reached list end last s → Plain t (size t) (operationAt t q m)
-          each m h l = elim (less? m rank) [
+          each m h l = elim (less? m prior) [
             | inl k ↦ between-other t a (size t) q no-size z .each m h k
             | inr k ↦ rest m k l
           ]
 
-  pub cut-whole : {from i : ℕ} → Follows t a list q from s rank i → Follows t (size t) list q from end last i
+  pub cut-whole : {from i : ℕ} → Follows t a list q from s prior i → Follows t (size t) list q from end last i
   cut-whole {from} {i} z =
       record {
         up-to = omega (arith, z .up-to, y .up-to);

@@ -39,17 +39,17 @@ begun-next {starts} {nexts} {lasts} {q} x h =
 
 -- ---- the entry
 
--- those from `from` up to s stand before the operation of this rank
-pub record Passed (list : List ℕ) (from end rank s : ℕ) : Type 0 where
+-- those from `from` up to s stand before the operation with `prior` earlier ones
+pub record Passed (list : List ℕ) (from end prior s : ℕ) : Type 0 where
   pub from-on : from ≤ s
   pub up-to : s ≤ end
-  pub before : (j : ℕ) → from ≤ j → j < s → ahead (getD list j 0) < rank
+  pub before : (j : ℕ) → from ≤ j → j < s → ahead (getD list j 0) < prior
 
-pub passed-start : (list : List ℕ) {from end : ℕ} (rank : ℕ) → from ≤ end → Passed list from end rank from
-passed-start list rank h = record { from-on = omega arith; up-to = h; before = λ j i l. absurd (omega arith) }
+pub passed-start : (list : List ℕ) {from end : ℕ} (prior : ℕ) → from ≤ end → Passed list from end prior from
+passed-start list prior h = record { from-on = omega arith; up-to = h; before = λ j i l. absurd (omega arith) }
 
-module _ {list : List ℕ} {from end rank s : ℕ} (x : Passed list from end rank s) where
-  pub passed-next : s < end → ahead (getD list s 0) < rank → Passed list from end rank (s + 1)
+module _ {list : List ℕ} {from end prior s : ℕ} (x : Passed list from end prior s) where
+  pub passed-next : s < end → ahead (getD list s 0) < prior → Passed list from end prior (s + 1)
   passed-next l h =
       record {
         from-on = omega (arith, x .from-on);
@@ -57,5 +57,5 @@ module _ {list : List ℕ} {from end rank s : ℕ} (x : Passed list from end ran
         before = λ j i k. elim (equal? j s) [ inl e ↦ rw e h | inr n ↦ x .before j i (omega (arith, n)) ];
       }
 
-  pub passed-entry : (s < end → rank ≤ ahead (getD list s 0)) → Entry list from end rank s
+  pub passed-entry : (s < end → prior ≤ ahead (getD list s 0)) → Entry list from end prior s
   passed-entry p = record { from-on = x .from-on; up-to = x .up-to; before = x .before; past = p }

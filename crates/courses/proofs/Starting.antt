@@ -41,8 +41,8 @@ start-sized o x h k m =
     }
 
 module _ {starts ends nexts lasts stops : List ℕ} (o : Opens starts ends) (b : Begun starts nexts lasts 16)
-    (same : Copied ends stops 16) {list : List ℕ} {q rank : ℕ} (low : q < 16) {stops′ lasts′ : List ℕ}
-    (y : Cut list starts stops lasts q rank stops′ lasts′) where
+    (same : Copied ends stops 16) {list : List ℕ} {q prior : ℕ} (low : q < 16) {stops′ lasts′ : List ℕ}
+    (y : Cut list starts stops lasts q prior stops′ lasts′) where
   -- the lists that are left lie inside too
   pub cut-opens : (r : ℕ) → r < 16 → (getD starts r 0 ≤ getD stops′ r 0) × (getD stops′ r 0 ≤ 1024)
   cut-opens r l = rw (y .stops) (go (equal? r q))
@@ -87,13 +87,13 @@ pub courses-whole : {t : Trace} {starts list ends nexts lasts : List ℕ} → Li
     → Begun starts nexts lasts 16 → Courses t (size t) starts list ends lasts
 courses-whole x b = record { each = λ q l. rw (b .each q l .1) (x .follows q l) }
 
-module _ {t : Trace} {p : ℕ} {starts list ends : List ℕ} {q rank a : ℕ} (x : LeftOut t p starts list ends q rank a)
+module _ {t : Trace} {p : ℕ} {starts list ends : List ℕ} {q prior a : ℕ} (x : LeftOut t p starts list ends q prior a)
     {nexts lasts stops stops′ lasts′ : List ℕ} (b : Begun starts nexts lasts 16) (same : Copied ends stops 16)
-    (low : q < 16) (y : Cut list starts stops lasts q rank stops′ lasts′) where
+    (low : q < 16) (y : Cut list starts stops lasts q prior stops′ lasts′) where
   whole : Courses t (size t) starts list ends lasts
   whole = courses-whole (x .listed) b
 
-  own-here : operationAt t q rank ≡ a
+  own-here : operationAt t q prior ≡ a
   own-here = rw (x .ahead, x .own) at (own-at t a (x .below))
 
   -- the entry, by the list's own end
@@ -110,12 +110,12 @@ module _ {t : Trace} {p : ℕ} {starts list ends : List ℕ} {q rank a : ℕ} (x
           → Follows t a list r (getD starts r 0) (getD stops′ r 0) (getD lasts′ r 0) 0
       each r l (inl e) =
           let s = getD-set-same stops q (y .at) 0 (omega (arith, low, same .room)) in
-          let c = getD-set-same lasts q rank 0 (omega (arith, low, b .counts)) in
+          let c = getD-set-same lasts q prior 0 (omega (arith, low, b .counts)) in
           rw (e, y .stops, y .counts, s, c)
           (cut-own (whole .each q low) own-here (x .below) (rw stop-own at (y .entry)))
       each r l (inr n) =
           let s = getD-set-other stops q r (y .at) 0 n ∙ same .each r l in
-          let c = getD-set-other lasts q r rank 0 n in
+          let c = getD-set-other lasts q r prior 0 n in
           rw (y .stops, y .counts, s, c)
           (follows-other t (size t) a r (apart-other t r a (others r n)) (λ e. e) (whole .each r l))
 
@@ -136,14 +136,14 @@ module _ {t : Trace} {p : ℕ} {starts list ends : List ℕ} {q rank a : ℕ} (x
         at-own : getD stops′ q 0 ≡ y .at
         at-own = rw (y .stops) (getD-set-same stops q (y .at) 0 (omega (arith, low, same .room)))
 
-        count-own : getD lasts′ q 0 ≡ rank
-        count-own = rw (y .counts) (getD-set-same lasts q rank 0 (omega (arith, low, b .counts)))
+        count-own : getD lasts′ q 0 ≡ prior
+        count-own = rw (y .counts) (getD-set-same lasts q prior 0 (omega (arith, low, b .counts)))
 
         room : q < length stops′
         room = rw (y .stops) (omega (arith, low, same .room, length-set stops q (y .at)))
 
         room′ : q < length lasts′
-        room′ = rw (y .counts) (omega (arith, low, b .counts, length-set lasts q rank))
+        room′ = rw (y .counts) (omega (arith, low, b .counts, length-set lasts q prior))
 
         follows : (v : ℕ) → v < 16 → (v ≡ q) ⊎ (v ≢ q)
             → Follows t (size t) list v (getD nexts′ v 0) (getD (set stops′ q (getD ends q 0)) v 0)

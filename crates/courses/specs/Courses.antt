@@ -24,33 +24,33 @@ pub record Begun (starts nexts lasts : List ℕ) (q : ℕ) : Type 0 where
   pub each : (r : ℕ) → r < q
       → (getD nexts r 0 ≡ getD starts r 0) × (getD lasts r 0 ≡ getD starts (r + 1) 0 - getD starts r 0)
 
--- the first entry from `from` on, up to `end`, that does not stand before the operation of this rank
-pub record Entry (list : List ℕ) (from end rank s : ℕ) : Type 0 where
+-- the first entry from `from` on, up to `end`, that does not stand before the operation with `prior` earlier ones
+pub record Entry (list : List ℕ) (from end prior s : ℕ) : Type 0 where
   pub from-on : from ≤ s
   pub up-to : s ≤ end
-  pub before : (j : ℕ) → from ≤ j → j < s → ahead (getD list j 0) < rank
-  pub past : s < end → rank ≤ ahead (getD list s 0)
+  pub before : (j : ℕ) → from ≤ j → j < s → ahead (getD list j 0) < prior
+  pub past : s < end → prior ≤ ahead (getD list s 0)
 
 -- each worker's list, without a
 pub record Courses (t : Trace) (a : ℕ) (starts list ends lasts : List ℕ) : Type 0 where
   pub each : (q : ℕ) → q < 16
       → Follows t a list q (getD starts q 0) (getD ends q 0) (getD lasts q 0) 0
 
--- worker q's list ends at entry s, before the operation of this rank
-pub record Cut (list starts ends lasts : List ℕ) (q rank : ℕ) (ends′ lasts′ : List ℕ) : Type 0 where
+-- worker q's list ends at entry `at`, before the operation with `prior` earlier ones
+pub record Cut (list starts ends lasts : List ℕ) (q prior : ℕ) (ends′ lasts′ : List ℕ) : Type 0 where
   pub at : ℕ
-  pub entry : Entry list (getD starts q 0) (getD ends q 0) rank at
+  pub entry : Entry list (getD starts q 0) (getD ends q 0) prior at
   pub stops : ends′ ≡ set ends q at
-  pub counts : lasts′ ≡ set lasts q rank
+  pub counts : lasts′ ≡ set lasts q prior
 
 -- a is the operation of worker q with this many earlier ones, in a trace of p workers whose lists these are
-pub record LeftOut (t : Trace) (p : ℕ) (starts list ends : List ℕ) (q rank a : ℕ) : Type 0 where
+pub record LeftOut (t : Trace) (p : ℕ) (starts list ends : List ℕ) (q prior a : ℕ) : Type 0 where
   pub fits : Fits t
   pub workers : t .workers ≡ p
   pub listed : Listed t starts list ends
   pub below : a < size t
   pub own : workerOf t a ≡ q
-  pub ahead : earlier (workerOf t) a ≡ rank
+  pub ahead : earlier (workerOf t) a ≡ prior
 
 -- these counts are those at the end of a walk without a
 pub record Ended (t : Trace) (a : ℕ) (counts : List ℕ) : Type 0 where

@@ -46,14 +46,14 @@ fn count_before(x: u32) -> u32
     x / 65536
 }
 
-// The first entry of a list, from `from` on, that does not stand before the operation of this rank.
-fn entry_from(list: &[u32; 1024], from: usize, end: usize, rank: u32) -> usize
+// The first entry of a list, from `from` on, that does not stand before the operation with `prior` earlier ones.
+fn entry_from(list: &[u32; 1024], from: usize, end: usize, prior: u32) -> usize
     requires { ⌜ (from ≤ «end») × («end» ≤ 1024) ⌝ }
-    ensures { λ r. ⌜ Entry (now (list .entry)) from «end» rank r ⌝ }
+    ensures { λ r. ⌜ Entry (now (list .entry)) from «end» prior r ⌝ }
 {
     let mut s = from;
     while s < end {
-        if rank <= count_before(list[s]) {
+        if prior <= count_before(list[s]) {
             return s;
         }
         s += 1;
@@ -61,25 +61,25 @@ fn entry_from(list: &[u32; 1024], from: usize, end: usize, rank: u32) -> usize
     s
 }
 
-// Worker q's list ends before its operation of this rank.
+// Worker q's list ends before its operation with `prior` earlier ones.
 pub fn cut(
     list: &[u32; 1024],
     starts: &[u16; 17],
     q: usize,
-    rank: u16,
+    prior: u16,
     stops: &mut [u16; 16],
     lasts: &mut [u16; 16],
 )
     requires { ⌜ (q < 16)
         × (getD (now starts) q 0 ≤ getD (now stops) q 0)
         × (getD (now stops) q 0 ≤ 1024) ⌝ }
-    ensures { λ r. ⌜ Cut (now (list .entry)) (now (starts .entry)) (now (stops .entry)) (now (lasts .entry)) q rank
+    ensures { λ r. ⌜ Cut (now (list .entry)) (now (starts .entry)) (now (stops .entry)) (now (lasts .entry)) q prior
         (now (stops .exit)) (now (lasts .exit)) ⌝ }
 {
     let from = basics::index(starts[q]);
     let end = basics::index(stops[q]);
-    stops[q] = entry_from(list, from, end, basics::wide(rank)) as u16;
-    lasts[q] = rank;
+    stops[q] = entry_from(list, from, end, basics::wide(prior)) as u16;
+    lasts[q] = prior;
 }
 
 // The state at the end of the walk of p workers, with nothing left out.
@@ -112,18 +112,18 @@ pub fn walk_whole(p: usize, starts: &[u16; 17], list: &[u32; 1024], ends: &[u16;
     }
 }
 
-// The state at the end of the walk of p workers without worker q's operation of this rank.
+// The state at the end of the walk of p workers without worker q's operation with `prior` earlier ones.
 pub fn walk_without(
     p: usize,
     q: usize,
-    rank: u16,
+    prior: u16,
     starts: &[u16; 17],
     list: &[u32; 1024],
     ends: &[u16; 16],
 ) -> Walk
     requires { ⌜ (p ≤ 16) × (q < 16) × Opens (now starts) (now ends) ⌝ }
     ensures { λ r. ⌜ ((t : Trace) (a : ℕ)
-        → LeftOut t p (now (starts .entry)) (now (list .entry)) (now (ends .entry)) q rank a
+        → LeftOut t p (now (starts .entry)) (now (list .entry)) (now (ends .entry)) q prior a
         → (s : List ℕ) × Exhausted t a s (r .done) (r .events)) ⌝ }
 {
     let mut nexts = [0u16; 16];
@@ -134,7 +134,7 @@ pub fn walk_without(
     let mut waiting = [0u16; 256];
     begin(starts, &mut nexts, &mut lasts);
     copy_ends(ends, &mut stops);
-    cut(list, starts, q, rank, &mut stops, &mut lasts);
+    cut(list, starts, q, prior, &mut stops, &mut lasts);
     let all = masks::below(p as u32);
     walk::walk_on(
         list,
@@ -158,18 +158,18 @@ pub struct Twice {
     pub whole: [u16; 16],
 }
 
-// One walk of p workers, first without worker q's operation of this rank, then with it.
+// One walk of p workers, first without worker q's operation with `prior` earlier ones, then with it.
 pub fn walk_twice(
     p: usize,
     q: usize,
-    rank: u16,
+    prior: u16,
     starts: &[u16; 17],
     list: &[u32; 1024],
     ends: &[u16; 16],
 ) -> Twice
     requires { ⌜ (p ≤ 16) × (q < 16) × Opens (now starts) (now ends) ⌝ }
     ensures { λ r. ⌜ ((t : Trace) (a : ℕ)
-        → LeftOut t p (now (starts .entry)) (now (list .entry)) (now (ends .entry)) q rank a
+        → LeftOut t p (now (starts .entry)) (now (list .entry)) (now (ends .entry)) q prior a
         → Ended t a (r .held) × Ended t (size t) (r .whole)) ⌝ }
 {
     let mut nexts = [0u16; 16];
@@ -180,7 +180,7 @@ pub fn walk_twice(
     let mut waiting = [0u16; 256];
     begin(starts, &mut nexts, &mut lasts);
     copy_ends(ends, &mut stops);
-    cut(list, starts, q, rank, &mut stops, &mut lasts);
+    cut(list, starts, q, prior, &mut stops, &mut lasts);
     let all = masks::below(p as u32);
     walk::walk_on(
         list,

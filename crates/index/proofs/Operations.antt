@@ -8,18 +8,13 @@ use lib.ListN.{List·getD-eq-default}
 use Rattle.basics.specs.Membership.{upTo}
 use Rattle.basics.proofs.Booleans.{less?}
 use Rattle.runs.specs.Workers.{count, earlier, operationsOf}
-use Rattle.runs.proofs.Counts.{earlier-less, nth}
-use Rattle.runs.proofs.Places.{operationsOf-length, count-few, operationsOf-at}
+use Rattle.runs.proofs.Counts.{nth}
+use Rattle.runs.proofs.Places.{operationsOf-length, operationsOf-at}
 use Rattle.trace.specs.Trace.{Trace, size, workerOf}
 use Rattle.index.specs.Indexed.{Rth}
 use Rattle.index.specs.Steps.{operationAt}
 
 -- ---- one with r earlier ones
-
-pub rth-few : {t : Trace} {q r x : ℕ} → Rth t q r x → r < size t
-rth-few {t} {q} {r} {x} h =
-    let less = earlier-less (workerOf t) (workerOf t x) (size t) refl (h .below) in
-    omega (arith, h .ahead, count-few (workerOf t) (workerOf t x) (size t))
 
 module _ (t : Trace) where
   pub rth-at : {q r x : ℕ} → Rth t q r x → operationAt t q r ≡ x

@@ -74,8 +74,8 @@ module _ {bytes : List ℕ} {p n : ℕ} {order starts list ends : List ℕ}
   pub readable-opens : Opens starts ends
   readable-opens = handed-opens (x .holds) (x .handed)
 
-  pub readable-left-out : {a q rank : ℕ} → a < n → q ≡ workerOf (traceOf bytes) a
-      → rank ≡ earlier (workerOf (traceOf bytes)) a → LeftOut (traceOf bytes) p starts list ends q rank a
+  pub readable-left-out : {a q prior : ℕ} → a < n → q ≡ workerOf (traceOf bytes) a
+      → prior ≡ earlier (workerOf (traceOf bytes)) a → LeftOut (traceOf bytes) p starts list ends q prior a
   readable-left-out l e i =
       record {
         fits = trace-fits (x .holds);

@@ -106,7 +106,7 @@ pub fn must_precede(
 }
 
 // How many of its worker's operations come before operation k.
-pub fn rank_of(
+pub fn count_prior(
     file: &[u8],
     operations: u32,
     order: &[u16; 1024],
@@ -116,7 +116,7 @@ pub fn rank_of(
     requires { ⌜ Operations (now file) operations (now order) (now starts) × (k < operations) ⌝ }
     ensures { λ r. ⌜ r ≡ earlier (workerOf (traceOf (now (file .entry)))) k ⌝ }
 {
-    places::rank_of(order, starts, trace::worker_of(file, k) as usize, k)
+    places::count_prior(order, starts, trace::worker_of(file, k) as usize, k)
 }
 
 // The second direction, where a need not precede b: by the walk without b.
@@ -136,9 +136,9 @@ fn order_back(
         × (mustPrecedeIn (traceOf (now file)) a b ≡ false) ⌝ }
     ensures { λ r. ⌜ r ≡ Ordered (pairOrder (traceOf (now (file .entry))) a b) ⌝ }
 {
-    let rank = rank_of(file, operations, order, starts, b);
+    let prior = count_prior(file, operations, order, starts, b);
     let q = trace::worker_of(file, b) as usize;
-    let end = courses::walk_without(workers as usize, q, rank, starts, list, ends);
+    let end = courses::walk_without(workers as usize, q, prior, starts, list, ends);
     let done = end.done;
     if must_precede(file, operations, order, starts, &done, b, a) {
         return OrderAnswer::Ordered { sign: 1 };
@@ -163,9 +163,9 @@ fn order_between(
         × Pair operations a b ⌝ }
     ensures { λ r. ⌜ r ≡ orderAnswer (now (file .entry)) a b ⌝ }
 {
-    let rank = rank_of(file, operations, order, starts, a);
+    let prior = count_prior(file, operations, order, starts, a);
     let q = trace::worker_of(file, a) as usize;
-    let end = courses::walk_twice(workers as usize, q, rank, starts, list, ends);
+    let end = courses::walk_twice(workers as usize, q, prior, starts, list, ends);
     let held = end.held;
     let whole = end.whole;
     match accept::accept_if_done(file, workers, operations, order, starts, &whole) {

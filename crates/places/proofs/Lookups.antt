@@ -70,17 +70,17 @@ module _ {t : Trace} {n : ℕ} {order starts : List ℕ} (x : Places t n order s
   known = rw (← own) (x .fits .each k (rw (x .count) below) .worker)
 
   -- where it is found
-  pub rank-found : {at : ℕ} → getD starts q 0 ≤ at → at < getD starts (q + 1) 0 → getD order at 0 ≡ k
+  pub prior-found : {at : ℕ} → getD starts q 0 ≤ at → at < getD starts (q + 1) 0 → getD order at 0 ≡ k
       → at - getD starts q 0 ≡ earlier (workerOf t) k
-  rank-found {at} h l e =
+  prior-found {at} h l e =
       let same : getD starts q 0 + (at - getD starts q 0) ≡ at = omega (arith, h) in
       let r = part-rth x q (at - getD starts q 0) known (omega (arith, h, l)) .1 in
       rw (same, e) at (sym (r .ahead))
 
   -- it is
-  pub rank-there : {at : ℕ} → Unfound order (getD starts q 0) (getD starts (q + 1) 0) k at → getD starts (q + 1) 0 ≤ at
+  pub prior-there : {at : ℕ} → Unfound order (getD starts q 0) (getD starts (q + 1) 0) k at → getD starts (q + 1) 0 ≤ at
       → ⊥
-  rank-there {at} u l =
+  prior-there {at} u l =
       let i = count (workerOf t) q (upTo k) in
       let few = earlier-less (workerOf t) q n own below in
       let here = rw own at (part-at x k below .1) in

@@ -52,7 +52,7 @@ pub fn lowest_left(
 }
 
 // How many of worker q's operations come before operation k, which is one of them.
-pub fn rank_of(order: &[u16; 1024], starts: &[u16; 17], q: usize, k: usize) -> u16
+pub fn count_prior(order: &[u16; 1024], starts: &[u16; 17], q: usize, k: usize) -> u16
     requires { ⌜ (q < 16) × (getD (now starts) (q + 1) 0 ≤ 1024) ⌝ }
     ensures { λ r. ⌜ ((t : Trace) (n : ℕ) → Places t n (now (order .entry)) (now (starts .entry)) → k < n
         → workerOf t k ≡ q → r ≡ earlier (workerOf t) k) ⌝ }

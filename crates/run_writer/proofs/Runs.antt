@@ -19,9 +19,9 @@ use Rattle.courses.specs.Courses.{Opens, Begun, Cut, LeftOut}
 use Rattle.courses.proofs.Starting.{start-sized, cut-opens, let-in-sized, courses-cut, going-start, going-let-in}
 use Rattle.run_writer.specs.Writing.{Written, WritesRun}
 
-module _ {t : Trace} {p : ℕ} {starts list ends : List ℕ} {q rank b : ℕ} (x : LeftOut t p starts list ends q rank b)
+module _ {t : Trace} {p : ℕ} {starts list ends : List ℕ} {q prior b : ℕ} (x : LeftOut t p starts list ends q prior b)
     (o : Opens starts ends) {nexts lasts stops stops′ lasts′ : List ℕ} (begun : Begun starts nexts lasts 16)
-    (same : Copied ends stops 16) (low : q < 16) (y : Cut list starts stops lasts q rank stops′ lasts′) where
+    (same : Copied ends stops 16) (low : q < 16) (y : Cut list starts stops lasts q prior stops′ lasts′) where
   -- ---- the start
 
   pub written-start : {all : ℕ} → Below p all → {run : List ℕ} → length run ≡ 1024

@@ -38,16 +38,16 @@ pub record Writing (order starts list ends lasts nexts counts events waiting : L
   pub base : List ℕ
   pub written : Written trace out base list ends lasts nexts counts events waiting ready at run
 
--- for some trace of p workers and at most 1,024 operations, whose index this is: worker q's operation of this rank is
+-- for some trace of p workers and at most 1,024 operations, whose index this is: worker q's operation with `prior` earlier ones is
 -- left out first
-pub record Runnable (p : ℕ) (order starts list ends : List ℕ) (q rank : ℕ) : Type 0 where
+pub record Runnable (p : ℕ) (order starts list ends : List ℕ) (q prior : ℕ) : Type 0 where
   pub trace : Trace
   pub count : ℕ
   pub few : count ≤ 1024
   pub places : Places trace count order starts
   pub opens : Opens starts ends
   pub out : ℕ
-  pub left-out : LeftOut trace p starts list ends q rank out
+  pub left-out : LeftOut trace p starts list ends q prior out
 
 -- the done counts at the end of the walk without b, and at the end of the whole one; and the run that holds b back
 pub record WritesRun (t : Trace) (b : ℕ) (held whole run : List ℕ) : Type 0 where

@@ -80,8 +80,8 @@ fn write_walk(
     at
 }
 
-// Writes the run that holds worker q's operation of this rank back: the walk of p workers without it, and from where
-// that ends the walk with nothing left out.
+// Writes the run that holds worker q's operation with `prior` earlier ones back: the walk of p workers without it, and
+// from where that ends the walk with nothing left out.
 pub fn write_run(
     p: usize,
     order: &[u16; 1024],
@@ -89,15 +89,15 @@ pub fn write_run(
     list: &[u32; 1024],
     ends: &[u16; 16],
     q: usize,
-    rank: u16,
+    prior: u16,
     run: &mut [u16; 1024],
 ) -> Ends
     requires { ⌜ (p ≤ 16)
         × (q < 16)
-        × Runnable p (now order) (now starts) (now list) (now ends) q rank
+        × Runnable p (now order) (now starts) (now list) (now ends) q prior
         × (length (now run) ≡ 1024) ⌝ }
     ensures { λ r. ⌜ ((t : Trace) (n b : ℕ) → n ≤ 1024 → Places t n (now (order .entry)) (now (starts .entry))
-        → LeftOut t p (now (starts .entry)) (now (list .entry)) (now (ends .entry)) q rank b
+        → LeftOut t p (now (starts .entry)) (now (list .entry)) (now (ends .entry)) q prior b
         → WritesRun t b (r .held) (r .whole) (now (run .exit))) ⌝ }
 {
     let mut nexts = [0u16; 16];
@@ -108,7 +108,7 @@ pub fn write_run(
     let mut waiting = [0u16; 256];
     courses::begin(starts, &mut nexts, &mut lasts);
     courses::copy_ends(ends, &mut stops);
-    courses::cut(list, starts, q, rank, &mut stops, &mut lasts);
+    courses::cut(list, starts, q, prior, &mut stops, &mut lasts);
     let all = masks::below(p as u32);
     let at = write_walk(
         order,

@@ -100,19 +100,6 @@ module _ {R : Rule} (order : List ℕ) where
 
 -- ---- the number of steps
 
-first-closed : {R : Rule} {d : List ℕ} (order : List ℕ) → Closed R d → firstThat (addable R d) order ≡ none
-first-closed {R} {d} order c = go (firstThat (addable R d) order) (first (addable R d) order)
-  where
-    go : (o : Option ℕ) → First (addable R d) order o → o ≡ none
-    go none f = refl
-    go (some x) f = absurd (c .none (addable-test d x .0 (first-passes f)))
-
--- where nothing can be added, nothing is
-pub greedy-stop : {R : Rule} {d : List ℕ} (order : List ℕ) (k : ℕ) → Closed R d → greedyFrom R order k d ≡ []
-greedy-stop order zero c = refl
-greedy-stop {R} {d} order (suc k) c =
-    ap (λ (o : Option ℕ). foundThen o (λ x. greedyFrom R order k (x ∷ d))) (first-closed order c)
-
 no-more : (l : List ℕ) → length l ≤ 0 → [] ≡ l
 no-more [] h = refl
 no-more (x ∷ l) h = absurd (not-suc-le-zero h)

@@ -1,8 +1,7 @@
 -- "The lowest-numbered worker whose next operation may run" (document 01, "Two runs"). In order: the first in the
 -- canonical order that can be added is of that worker; there is one such operation; several steps, and with nothing
--- left out; one step of a walk; the greedy run is the run that lets the lowest-numbered worker go first, and there is
--- one such run.
-use mathlib.Core.Path.{_≡_, refl, ap}
+-- left out; the greedy run is the run that lets the lowest-numbered worker go first, and there is one such run.
+use mathlib.Core.Path.{_≡_, refl}
 use mathlib.Core.Bool.{Bool, not}
 use mathlib.Core.List.{List, [], _∷_, _++_, List·Memᴰ·head, List·Memᴰ·tail}
 use mathlib.Core.Option.{Option, none, some}
@@ -19,7 +18,7 @@ use Rattle.runs.specs.Greedy.{Preference, firstThat, foundThen, greedyFr
 use Rattle.runs.specs.Workers.{InTurn, count, earlier, Counted, Ascending, up-cons}
 use Rattle.runs.specs.Workers.{LowestAddable, LowestFirst, none-can, moves, LowestSteps, no-step, one-step}
 use Rattle.runs.proofs.RunSteps.{addable-test}
-use Rattle.runs.proofs.GreedyRuns.{First, found, skip, first, first-passes, first-missing, greedy-from-closed}
+use Rattle.runs.proofs.GreedyRuns.{First, found, skip, first, first-passes, greedy-from-closed}
 use Rattle.runs.proofs.Counts.{addable-next, counted-add, run-counted, earlier-injective}
 use Rattle.runs.proofs.CanonicalOrder.{ahead-worker}
 
@@ -100,17 +99,6 @@ module _ {worker : ℕ → ℕ} {R : Rule} {order : List ℕ}
   -- the first in the canonical order that can be added is of the lowest-numbered worker that can move
   pub first-addable-lowest : (d : List ℕ) {x : ℕ} → firstThat (addable R d) order ≡ some x → LowestAddable worker R d x
   first-addable-lowest d e = found-lowest (rw e at (first (addable R d) order))
-
-  -- One step of a walk: the operation of the lowest-numbered worker that can move is the greedy run's next one.
-  pub greedy-step : InTurn R worker → (k : ℕ) {d : List ℕ} {x : ℕ} → Counted worker d → LowestAddable worker R d x
-      → greedyFrom R order (suc k) d ≡ x ∷ greedyFrom R order k (x ∷ d)
-  greedy-step turn k {d} {x} c a =
-      ap (λ (o : Option ℕ). foundThen o (λ z. greedyFrom R order k (z ∷ d)))
-      (go (firstThat (addable R d) order) (first (addable R d) order))
-    where
-      go : (o : Option ℕ) → First (addable R d) order o → o ≡ some x
-      go none f = absurd (first-missing f x (all .lists (a .can .below)) (addable-test d x .1 (a .can)))
-      go (some z) f = ap some (lowest-same turn c (found-lowest f) a)
 
   greedy-lowest : (k : ℕ) (d : List ℕ) → Closed R (done d (greedyFrom R order k d))
       → LowestFirst worker R d (greedyFrom R order k d)

@@ -38,12 +38,6 @@ pub record KeptAt (t : Trace) (starts list ends lasts : List ℕ) (q i own : ℕ
   pub rows : (old : List ℕ) → RowsTo t starts (getD starts q 0) old before
       → RowsTo t starts (getD starts q 0 + i) old now
 
--- that entry is one of the array, or at its end
-pub own-few : {t : Trace} {starts list ends lasts : List ℕ} {q i own : ℕ} {nexts counts events waiting : List ℕ}
-    {ready : ℕ} {before now : List ℕ}
-    → KeptAt t starts list ends lasts q i own nexts counts events waiting ready before now → q < 16 → own ≤ 1024
-own-few {q = q} k l = omega (arith, k .own-list .up-to, k .sized .each q l .1)
-
 module _ {bytes : List ℕ} {p n : ℕ} {order starts list ends before : List ℕ}
     (x : Fillable bytes p n order starts list ends before) {q : ℕ} (hq : q < p) {firsts lasts : List ℕ}
     (begun : Begun starts firsts lasts 16) where

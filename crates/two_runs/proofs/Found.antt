@@ -22,8 +22,8 @@ use Rattle.two_runs.specs.Premises.{RunFound, BothFound, BothWritten}
 -- ---- what the writer of a run asks
 
 pub readable-runnable : {bytes : List ℕ} {p n : ℕ} {order starts list ends : List ℕ}
-    → Readable bytes p n order starts list ends → {k q rank : ℕ} → k < n → q ≡ workerOf (traceOf bytes) k
-    → rank ≡ earlier (workerOf (traceOf bytes)) k → Runnable p order starts list ends q rank
+    → Readable bytes p n order starts list ends → {k q prior : ℕ} → k < n → q ≡ workerOf (traceOf bytes) k
+    → prior ≡ earlier (workerOf (traceOf bytes)) k → Runnable p order starts list ends q prior
 readable-runnable {bytes} {n = n} x {k} l e i =
     record {
       trace = traceOf bytes;

@@ -90,7 +90,7 @@ fn runs_if_unordered(
         (now (first .exit)) (now (second .exit)) ⌝ }
 {
     let mut other = [0u16; 1024];
-    let rank = pair_order::rank_of(file, operations, order, starts, a as usize);
+    let prior = pair_order::count_prior(file, operations, order, starts, a as usize);
     let q = trace::worker_of(file, a as usize) as usize;
     let end = run_writer::write_run(
         workers as usize,
@@ -99,7 +99,7 @@ fn runs_if_unordered(
         list,
         ends,
         q,
-        rank,
+        prior,
         &mut other,
     );
     let held = end.held;
@@ -141,7 +141,7 @@ fn runs_between(
         (now (first .exit)) (now (second .exit)) ⌝ }
 {
     let mut one = [0u16; 1024];
-    let rank = pair_order::rank_of(file, operations, order, starts, b as usize);
+    let prior = pair_order::count_prior(file, operations, order, starts, b as usize);
     let q = trace::worker_of(file, b as usize) as usize;
     let end = run_writer::write_run(
         workers as usize,
@@ -150,7 +150,7 @@ fn runs_between(
         list,
         ends,
         q,
-        rank,
+        prior,
         &mut one,
     );
     let held = end.held;

@@ -47,10 +47,10 @@ returns : tie.Need-returns
 returns c =
     let from = c .before .before .before .before .index .ensures .0 in
     let end = c .before .before .index2 .ensures .0 in
-    let rank = c .before .wide .ensures .0 in
+    let prior = c .before .wide .ensures .0 in
     record {
       at = c .entry-from .result;
-      entry = rw (from, end, rank) at (c .entry-from .ensures);
+      entry = rw (from, end, prior) at (c .entry-from .ensures);
       stops = refl;
       counts = refl;
     }

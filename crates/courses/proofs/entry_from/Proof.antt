@@ -7,13 +7,13 @@ use Rattle.courses.proofs.entry_from.Statement.{statement}
 use Rattle.courses.proofs.entry_from.Tie as tie
 
 abbrev Inv-loop : tie.InvT-loop
-Inv-loop list from end rank s₀ s = Passed list from end rank s
+Inv-loop list from end prior s₀ s = Passed list from end prior s
 
 abbrev μ-loop : tie.MeasureT-loop
-μ-loop list from end rank s₀ s = end - s
+μ-loop list from end prior s₀ s = end - s
 
 loop-holds : tie.Need-loop-holds Inv-loop μ-loop
-loop-holds c = passed-start (c .args .list .now) (c .args .rank) (c .pre .0)
+loop-holds c = passed-start (c .args .list .now) (c .args .prior) (c .pre .0)
 
 mul-count-before : tie.Need-mul-count-before Inv-loop μ-loop
 mul-count-before c = search needs

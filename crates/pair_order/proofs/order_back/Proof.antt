@@ -7,8 +7,8 @@ use Rattle.pair_order.proofs.Answers.{readable-left-out, worker-low}
 use Rattle.pair_order.proofs.order_back.Statement.{statement}
 use Rattle.pair_order.proofs.order_back.Tie as tie
 
-rank-of-requires : tie.Need-rank-of-requires
-rank-of-requires c κs = search needs
+count-prior-requires : tie.Need-count-prior-requires
+count-prior-requires c κs = search needs
 
 worker-of-requires : tie.Need-worker-of-requires
 worker-of-requires c κs = search needs
@@ -28,7 +28,7 @@ must-precede-requires c κs =
     let c6 = c3 .before .before .before in
     let (x, y, e) = c6 .pre in
     let t = traceOf (c6 .args .file .now) in
-    let left = readable-left-out x (y .second-below) (c3 .worker-of .ensures) (c3 .before .rank-of .ensures) in
+    let left = readable-left-out x (y .second-below) (c3 .worker-of .ensures) (c3 .before .count-prior .ensures) in
     let (run, end) = c .before .before .walk-without .ensures t _ left in (
       readable-operations x,
       record { run = run; events = _; exhausted = end },
@@ -52,7 +52,7 @@ pub order-back-spec : {M : Type 1} → statement M
 order-back-spec =
     tie.close
     (tie.spec
-    rank-of-requires
+    count-prior-requires
     worker-of-requires
     cast-q
     walk-without-requires

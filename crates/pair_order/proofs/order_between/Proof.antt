@@ -9,8 +9,8 @@ use Rattle.pair_order.proofs.Answers.{worker-low}
 use Rattle.pair_order.proofs.order_between.Statement.{statement}
 use Rattle.pair_order.proofs.order_between.Tie as tie
 
-rank-of-requires : tie.Need-rank-of-requires
-rank-of-requires c κs = search needs
+count-prior-requires : tie.Need-count-prior-requires
+count-prior-requires c κs = search needs
 
 worker-of-requires : tie.Need-worker-of-requires
 worker-of-requires c κs = search needs
@@ -31,7 +31,7 @@ accept-if-done-requires c κs =
     let (x, y) = c7 .pre in
     let t = traceOf (c7 .args .file .now) in
     let left = readable-left-out x (y .first-below) (c3 .before .worker-of .ensures)
-    (c3 .before .before .rank-of .ensures) in
+    (c3 .before .before .count-prior .ensures) in
     (x .holds, x .handed .indexed, c3 .walk-twice .ensures t _ left .1)
 
 enum-known-p : tie.Need-enum-known-p
@@ -46,7 +46,7 @@ must-precede-requires c κs =
     let t = traceOf (c12 .args .file .now) in
     let h = answer-accepts _ _ _ (sym (c4 .accept-if-done .ensures) ∙ c .before .before .p .given .1) in
     let left = readable-left-out x (y .first-below) (c8 .before .worker-of .ensures)
-    (c8 .before .before .rank-of .ensures) in
+    (c8 .before .before .count-prior .ensures) in
     let y′ = pair-same x (h .1) y in (
       readable-operations (readable-same x (h .1)),
       c8 .walk-twice .ensures t _ left .0,
@@ -92,7 +92,7 @@ pub order-between-spec : {M : Type 1} → statement M
 order-between-spec =
     tie.close
     (tie.spec
-    rank-of-requires
+    count-prior-requires
     worker-of-requires
     cast-q
     walk-twice-requires

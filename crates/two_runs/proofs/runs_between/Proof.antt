@@ -11,8 +11,8 @@ use Rattle.two_runs.proofs.Found.{readable-runnable, accepted-pair, run
 use Rattle.two_runs.proofs.runs_between.Statement.{statement}
 use Rattle.two_runs.proofs.runs_between.Tie as tie
 
-rank-of-requires : tie.Need-rank-of-requires
-rank-of-requires c κs = search needs
+count-prior-requires : tie.Need-count-prior-requires
+count-prior-requires c κs = search needs
 
 worker-of-requires : tie.Need-worker-of-requires
 worker-of-requires c κs = search needs
@@ -26,7 +26,7 @@ write-run-requires c κs =
     let (x, y) = c6 .pre in
     let own = c .before .worker-of .ensures in
     let low = worker-low (readable-operations x) (y .second-below) own in
-    (x .holds .most, low .0, readable-runnable x (y .second-below) own (c .before .before .rank-of .ensures), refl)
+    (x .holds .most, low .0, readable-runnable x (y .second-below) own (c .before .before .count-prior .ensures), refl)
 
 accept-if-done-requires : tie.Need-accept-if-done-requires
 accept-if-done-requires c κs =
@@ -36,7 +36,7 @@ accept-if-done-requires c κs =
     let (x, y) = c10 .pre in
     let t = traceOf (c10 .args .file .now) in
     let places = holds-places (x .holds) (x .handed .indexed) in
-    let left = readable-left-out x (y .second-below) (c3 .before .before .worker-of .ensures) (c6 .rank-of .ensures) in
+    let left = readable-left-out x (y .second-below) (c3 .before .before .worker-of .ensures) (c6 .count-prior .ensures) in
     let w = c3 .write-run .ensures t _ _ (x .holds .few) places left in
     (x .holds, x .handed .indexed, w .whole-run)
 
@@ -54,7 +54,7 @@ must-precede-requires c κs =
     let h = answer-accepts _ _ _ (sym (c4 .accept-if-done .ensures) ∙ c .before .before .p .given .1) in
     let places = holds-places (x .holds) (x .handed .indexed) in
     let left = readable-left-out x (y .second-below) (c8 .before .before .worker-of .ensures)
-    (c11 .rank-of .ensures) in
+    (c11 .count-prior .ensures) in
     let w = c8 .write-run .ensures t _ _ (x .holds .few) places left in
     let y′ = pair-same x (h .1) y in
     (readable-operations (readable-same x (h .1)), w .without-b, y′ .first-below, λ z. y′ .differ (sym z))
@@ -81,7 +81,7 @@ runs-if-unordered-requires c κs =
     let h = answer-accepts _ _ _ (sym (c7 .before .before .accept-if-done .ensures) ∙ c7 .p .given .1) in
     let places = holds-places (x .holds) (x .handed .indexed) in
     let left = readable-left-out x (y .second-below) (c13 .before .before .worker-of .ensures)
-    (c16 .rank-of .ensures) in
+    (c16 .count-prior .ensures) in
     let w = c13 .write-run .ensures t _ _ (x .holds .few) places left in (
       h .0,
       readable-same x (h .1),
@@ -110,7 +110,7 @@ pub runs-between-spec : {M : Type 1} → statement M
 runs-between-spec =
     tie.close
     (tie.spec
-    rank-of-requires
+    count-prior-requires
     worker-of-requires
     cast-q
     write-run-requires

@@ -10,8 +10,8 @@ use Rattle.two_runs.proofs.Found.{readable-runnable, accepted-pair, run
 use Rattle.two_runs.proofs.runs_if_unordered.Statement.{statement}
 use Rattle.two_runs.proofs.runs_if_unordered.Tie as tie
 
-rank-of-requires : tie.Need-rank-of-requires
-rank-of-requires c κs = search needs
+count-prior-requires : tie.Need-count-prior-requires
+count-prior-requires c κs = search needs
 
 worker-of-requires : tie.Need-worker-of-requires
 worker-of-requires c κs = search needs
@@ -25,7 +25,7 @@ write-run-requires c κs =
     let (accepted, x, y, e, f) = c6 .pre in
     let own = c .before .worker-of .ensures in
     let low = worker-low (readable-operations x) (y .first-below) own in
-    (x .holds .most, low .0, readable-runnable x (y .first-below) own (c .before .before .rank-of .ensures), refl)
+    (x .holds .most, low .0, readable-runnable x (y .first-below) own (c .before .before .count-prior .ensures), refl)
 
 must-precede-requires : tie.Need-must-precede-requires
 must-precede-requires c κs =
@@ -34,7 +34,7 @@ must-precede-requires c κs =
     let (accepted, x, y, e, f) = c9 .pre in
     let t = traceOf (c9 .args .file .now) in
     let places = holds-places (x .holds) (x .handed .indexed) in
-    let left = readable-left-out x (y .first-below) (c4 .worker-of .ensures) (c4 .before .rank-of .ensures) in
+    let left = readable-left-out x (y .first-below) (c4 .worker-of .ensures) (c4 .before .count-prior .ensures) in
     let w = c .before .before .write-run .ensures t _ _ (x .holds .few) places left in
     (readable-operations x, w .without-b, y .second-below, y .differ)
 
@@ -54,7 +54,7 @@ runs-if-room-requires c κs =
     let (accepted, x, y, e, f) = c14 .pre in
     let t = traceOf (c14 .args .file .now) in
     let places = holds-places (x .holds) (x .handed .indexed) in
-    let left = readable-left-out x (y .first-below) (c7 .before .before .worker-of .ensures) (c10 .rank-of .ensures) in
+    let left = readable-left-out x (y .first-below) (c7 .before .before .worker-of .ensures) (c10 .count-prior .ensures) in
     let w = c7 .write-run .ensures t _ _ (x .holds .few) places left in
     record {
       unordered = pair-unordered (accepted-pair accepted (x .holds) y)
@@ -78,7 +78,7 @@ pub runs-if-unordered-spec : {M : Type 1} → statement M
 runs-if-unordered-spec =
     tie.close
     (tie.spec
-    rank-of-requires
+    count-prior-requires
     worker-of-requires
     cast-q
     write-run-requires

@@ -1,11 +1,11 @@
--- `rank_of` meets its contract. The invariant: the operation is not found before `at`. Assumes nothing.
+-- `count_prior` meets its contract. The invariant: the operation is not found before `at`. Assumes nothing.
 use mathlib.Core.Path.{sym, _∙_}
 use native.Mathlib.Omega.{arith}
 use Prim.Native.Nat.{_-_}
 use borrow.Author.Needs.{needs}
-use Rattle.places.proofs.Lookups.{Unfound, unfound-start, unfound-next, rank-found, rank-there}
-use Rattle.places.proofs.rank_of.Statement.{statement}
-use Rattle.places.proofs.rank_of.Tie as tie
+use Rattle.places.proofs.Lookups.{Unfound, unfound-start, unfound-next, prior-found, prior-there}
+use Rattle.places.proofs.count_prior.Statement.{statement}
+use Rattle.places.proofs.count_prior.Tie as tie
 
 abbrev Inv-loop : tie.InvT-loop
 Inv-loop order starts q k first end at₀ at = Unfound order first end k at
@@ -63,7 +63,7 @@ returns c =
     let end = c3 .before .before .index2 .ensures .0 in
     let found = sym (c .before .index3 .ensures .0) ∙ c .if1 .taken in
     let lower = rw from at (c3 .before .loop .inv .from-on) in
-    rw from (rank-found x below own lower (rw end at (c3 .loop-test .taken)) found)
+    rw from (prior-found x below own lower (rw end at (c3 .loop-test .taken)) found)
 
 add-at : tie.Need-add-at Inv-loop μ-loop
 add-at c = search needs
@@ -80,10 +80,10 @@ returns-2 c =
     λ t n x below own.
     let from = c .before .before .before .before .index .ensures .0 in
     let end = c .before .before .index2 .ensures .0 in
-    absurd (rank-there x below own (rw (from, end) at (c .before .loop .inv)) (rw end at (c .loop-test .left)))
+    absurd (prior-there x below own (rw (from, end) at (c .before .loop .inv)) (rw end at (c .loop-test .left)))
 
-pub rank-of-spec : {M : Type 1} → statement M
-rank-of-spec =
+pub count-prior-spec : {M : Type 1} → statement M
+count-prior-spec =
     tie.close
     (tie.spec
     Inv-loop
