@@ -1,13 +1,13 @@
 -- The runs of document 01's rule are the runs of the trace. In order: what the rule asks of an operation; runs;
 -- complete runs; the test of a run.
-use mathlib.Core.Bool.{Bool}
-use mathlib.Core.List.{List, _∷_, _++_, Memᴰ·append-right, append-assoc}
+use mathlib.Core.Bool.{Bool, true, false, cond}
+use mathlib.Core.List.{List, [], _∷_, _++_, Memᴰ·append-right, append-assoc}
 use mathlib.Core.Logic.{_↔_, Iff·trans}
 use mathlib.Core.Path.{_≡_}
 use Prim.Native.Nat.{ℕ}
 use lib.Dec.{T, eqb, eqb→eq, eqb-refl}
-use Rattle.basics.specs.Membership.{_∈_}
-use Rattle.basics.proofs.Booleans.{and-left, and-right, and-intro, if-test}
+use Rattle.basics.specs.Membership.{_∈_, allOf}
+use Rattle.basics.proofs.Booleans.{and-left, and-right, and-intro}
 use Rattle.basics.proofs.Members.{any-test, in-split, here}
 use Rattle.runs.specs.Run.{Run, Complete, StandsBefore}
 use Rattle.runs.specs.Steps.{isRun}
@@ -42,7 +42,14 @@ module _ (t : Trace) where
   unblocked-means d x = (forth, back)
     where
       asks : T (unblocked t d x) ↔ (Waits t x → T (posted t (operation t x .number) d))
-      asks = if-test (isWait (operation t x .kind)) (posted t (operation t x .number) d)
+      asks = go (isWait (operation t x .kind))
+        where
+          n : ℕ
+          n = operation t x .number
+
+          go : (b : Bool) → T (allOf (λ e. posted t e d) (cond b (n ∷ []) [])) ↔ (T b → T (posted t n d))
+          go true = (λ h w. and-left (posted t n d) true h, λ f. and-intro (posted t n d) true (f tt) tt)
+          go false = (λ h w. absurd w, λ f. tt)
 
       forth : T (unblocked t d x) → MayRun t d x
       forth h = record { posted = λ w. found (any-test _ d .0 (asks .0 h w)) }

@@ -1,11 +1,11 @@
 -- The rule of document 01 as a rule of the theory of runs: which operation may be next, given those that are done.
 -- Follows: document 01, "Runs".
 -- Differs: it is a test, so that runs can be computed. proofs/TraceRuns shows that its runs are the runs of specs/Runs.
-use mathlib.Core.Bool.{Bool, not, _&&_, _||_}
-use mathlib.Core.List.{List}
+use mathlib.Core.Bool.{Bool, _&&_, cond}
+use mathlib.Core.List.{List, [], _∷_}
 use Prim.Native.Nat.{ℕ, _<_}
 use lib.Dec.{eqb}
-use Rattle.basics.specs.Membership.{anyOf}
+use Rattle.basics.specs.Membership.{allOf, anyOf}
 use Rattle.runs.specs.Rule.{Rule}
 use Rattle.runs.specs.Workers.{turn, canonical}
 use Rattle.trace.specs.Trace.{Trace, size, operation, workerOf, isPost, isWait}
@@ -18,13 +18,17 @@ posts t e y = isPost (operation t y .kind) && eqb (operation t y .number) e
 abbrev pub posted : Trace → ℕ → List ℕ → Bool
 posted t e d = anyOf (posts t e) d
 
--- does operation x need event e: is it a Wait of e, which may not run before e is posted?
-abbrev pub needs : Trace → ℕ → ℕ → Bool
-needs t e x = isWait (operation t x .kind) && eqb (operation t x .number) e
+-- the events without which operation x may not run: a Wait's event
+abbrev pub needed : Trace → ℕ → List ℕ
+needed t x = cond (isWait (operation t x .kind)) (operation t x .number ∷ []) []
 
--- if x is a Wait, is its event posted?
+-- is event e one of them?
+abbrev pub needs : Trace → ℕ → ℕ → Bool
+needs t e x = anyOf (λ n. eqb n e) (needed t x)
+
+-- is each of them posted?
 abbrev pub unblocked : Trace → List ℕ → ℕ → Bool
-unblocked t d x = not (isWait (operation t x .kind)) || posted t (operation t x .number) d
+unblocked t d x = allOf (λ e. posted t e d) (needed t x)
 
 -- x may be next: its worker's earlier operations are done, and a Wait has a Post of its event done
 abbrev pub rule : Trace → Rule
