@@ -1,4 +1,5 @@
 -- `accept_if_complete` meets its contract. Assumes nothing.
+use native.Mathlib.Omega.{arith}
 use borrow.Author.Needs.{needs}
 use Rattle.trace.proofs.Fitting.{trace-fits}
 use Rattle.trace.specs.Reading.{traceOf}
@@ -9,7 +10,7 @@ use Rattle.accept.proofs.accept_if_complete.Tie as tie
 walk-whole-requires : tie.Need-walk-whole-requires
 walk-whole-requires c κs =
     let (h, x) = c .before .pre in
-    (h .most, handed-opens h x)
+    (omega (arith, h .most), handed-opens h x)
 
 accept-if-done-requires : tie.Need-accept-if-done-requires
 accept-if-done-requires c κs =
