@@ -26,8 +26,8 @@ struct Stop {
 fn is_held(x: u32, events: &[u64; 4]) -> bool
     ensures { λ r. ⌜ r ≡ (holds x && not (isPosted (now (events .entry)) (event x))) ⌝ }
 {
-    let posted = events::is_posted(events, x % 256);
-    basics::both((x / 256) % 2 == 1, !posted)
+    let posted = events::is_posted(events, index::event_of(x));
+    basics::both(index::needs_event(x), !posted)
 }
 
 // Posts event e. Answers who waited for it; nobody does then.
@@ -53,18 +53,11 @@ fn enter(q: u32, e: u32, waiting: &mut [u16; 256])
     waiting[at] = masks::with(waiting[at], q);
 }
 
-// How many of its worker's operations come before the step of an entry.
-fn count_before(x: u32) -> u16
-    ensures { λ r. ⌜ r ≡ ahead x ⌝ }
-{
-    (x / 65536) as u16
-}
-
-// And with that one.
+// How many operations its worker has done after the step of an entry.
 fn count_after(x: u32) -> u16
     ensures { λ r. ⌜ r ≡ (ahead x + 1) % 65536 ⌝ }
 {
-    ((x / 65536 + 1) % 65536) as u16
+    ((index::count_before(x) + 1) % 65536) as u16
 }
 
 // Worker q goes on along its list, from entry `from`, until an event holds it, or its list ends, with `last` operations
@@ -91,15 +84,16 @@ fn go_on(
     let mut freed: u16 = 0;
     while at < end {
         let x = list[at];
+        let e = index::event_of(x);
         if is_held(x, events) {
-            enter(q, x % 256, waiting);
+            enter(q, e, waiting);
             return Stop {
                 at: at,
-                count: count_before(x),
+                count: index::count_before(x) as u16,
                 freed: freed,
             };
         }
-        let more = release(x % 256, events, waiting);
+        let more = release(e, events, waiting);
         freed = freed | more;
         at += 1;
         if !masks::are_apart(more, below) {

@@ -34,26 +34,34 @@ element-copy-out-x c =
     let (low, up, few, words, room) = c .before .before .pre in
     omega (arith, few, c .loop-test .taken)
 
+event-of-requires : tie.Need-event-of-requires Inv-loop μ-loop
+event-of-requires c κs = search needs
+
 is-held-requires : tie.Need-is-held-requires Inv-loop μ-loop
 is-held-requires c κs = search needs
 
 enter-requires : tie.Need-enter-requires Inv-loop μ-loop
 enter-requires c κs =
-    let c7 = c .before .before .before .before .before .before .before in
-    let (low, up, few, words, room) = c7 .pre in
-    (low, omega arith)
+    let c4 = c .before .before .before .before in
+    let (low, up, few, words, room) = c4 .before .before .before .before .pre in
+    (low, omega (arith, c4 .event-of .ensures))
 
 count-before-requires : tie.Need-count-before-requires Inv-loop μ-loop
 count-before-requires c κs = search needs
 
+cast-t24 : tie.Need-cast-t24 Inv-loop μ-loop
+cast-t24 c = search needs
+
 returns : tie.Need-returns Inv-loop μ-loop
 returns c =
     let c3 = c .before .before .before in
-    let c7 = c3 .before .before .before .before in
-    let (low, up, few, words, room) = c7 .before .before .pre in
-    let (x, clear) = c7 .before .loop .inv in
+    let c6 = c3 .before .before .before in
+    let c8 = c6 .before .before in
+    let (low, up, few, words, room) = c8 .before .before .pre in
+    let (x, clear) = c8 .before .loop .inv in
+    let entered = rw (c6 .event-of .ensures) at (c .before .enter .ensures) in
     let held = sym (c3 .before .is-held .ensures) ∙ c3 .if1 .taken in
-    rw (c .count-before .ensures) (along-wait low x (c7 .loop-test .taken) held (c .before .enter .ensures))
+    rw (c .count-before .ensures .0) (along-wait low x (c8 .loop-test .taken) held entered)
 
 release-requires : tie.Need-release-requires Inv-loop μ-loop
 release-requires c κs = search needs
@@ -69,21 +77,22 @@ count-after-requires c κs = search needs
 
 with-requires : tie.Need-with-requires Inv-loop μ-loop
 with-requires c κs =
-    let c12 = c .before .before .before .before .before .before .before .before .before .before .before .before in
-    let (low, up, few, words, room) = c12 .pre in
+    let c13 = c .before .before .before .before .before .before .before .before .before .before .before .before .before in
+    let (low, up, few, words, room) = c13 .pre in
     low
 
 returns-2 : tie.Need-returns-2 Inv-loop μ-loop
 returns-2 c =
     let c4 = c .before .before .before .before in
     let c7 = c4 .before .before .before in
-    let c11 = c7 .before .before .before .before in
-    let (low, up, few, words, room) = c11 .before .before .pre in
-    let (x, clear) = c11 .before .loop .inv in
+    let c10 = c7 .before .before .before in
+    let c12 = c10 .before .before in
+    let (low, up, few, words, room) = c12 .before .before .pre in
+    let (x, clear) = c12 .before .loop .inv in
     let free = sym (c7 .before .is-held .ensures) ∙ c7 .if1 .left in
-    let (freed, events, waiting) = c4 .release .ensures in
+    let (freed, events, waiting) = rw (c10 .event-of .ensures) at (c4 .release .ensures) in
     rw (c .before .count-after .ensures, events, waiting)
-    (along-yield low x (c11 .loop-test .taken) clear free (rw freed at (c .with .ensures)))
+    (along-yield low x (c12 .loop-test .taken) clear free (rw freed at (c .with .ensures)))
 
 loop-less : tie.Need-loop-less Inv-loop μ-loop
 loop-less c = search needs
@@ -91,14 +100,15 @@ loop-less c = search needs
 loop-again : tie.Need-loop-again Inv-loop μ-loop
 loop-again c =
     let c5 = c .before .before .before .before .before in
-    let c9 = c5 .before .before .before .before in
-    let (low, up, few, words, room) = c9 .before .before .pre in
-    let (x, clear) = c9 .before .loop .inv in
+    let c8 = c5 .before .before .before in
+    let c10 = c8 .before .before in
+    let (low, up, few, words, room) = c10 .before .before .pre in
+    let (x, clear) = c10 .before .loop .inv in
     let free = sym (c5 .before .is-held .ensures) ∙ c5 .if1 .left in
-    let (freed, events, waiting) = c .before .before .release .ensures in
+    let (freed, events, waiting) = rw (c8 .event-of .ensures) at (c .before .before .release .ensures) in
     let apart = c .before .are-apart .result in
     let more = c .before .are-apart .ensures .0 (test-true _ .1 (not-fails apart (λ h. h, λ h. h) .0 (c .if2 .left))) in
-    rw (freed, events, waiting) (along-step low x (c9 .loop-test .taken) clear free (rw freed at more))
+    rw (freed, events, waiting) (along-step low x (c10 .loop-test .taken) clear free (rw freed at more))
 
 returns-3 : tie.Need-returns-3 Inv-loop μ-loop
 returns-3 c =
@@ -114,9 +124,11 @@ go-on-spec =
     loop-holds
     mul-x
     element-copy-out-x
+    event-of-requires
     is-held-requires
     enter-requires
     count-before-requires
+    cast-t24
     returns
     release-requires
     add-at
