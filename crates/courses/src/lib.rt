@@ -6,7 +6,7 @@ ghost use Prim.Native.Nat.{ℕ, _+_, _-_, _<_, _≤_};
 ghost use lib.ListN.{length, getD};
 ghost use Rattle.trace.specs.Premises.{Fits};
 ghost use Rattle.trace.specs.Trace.{Trace, size};
-ghost use Rattle.index.specs.Steps.{ahead, Listed};
+ghost use Rattle.index.specs.Steps.{Listed};
 ghost use Rattle.index.specs.Filling.{Copied};
 ghost use Rattle.states.specs.States.{Exhausted};
 ghost use Rattle.courses.specs.Courses.{Opens, Begun, Entry, Cut, LeftOut, Ended};
@@ -39,13 +39,6 @@ pub fn copy_ends(ends: &[u16; 16], stops: &mut [u16; 16])
     }
 }
 
-// How many of its worker's operations come before the step of an entry.
-fn count_before(x: u32) -> u32
-    ensures { λ r. ⌜ r ≡ ahead x ⌝ }
-{
-    x / 65536
-}
-
 // The first entry of a list, from `from` on, that does not stand before the operation with `prior` earlier ones.
 fn entry_from(list: &[u32; 1024], from: usize, end: usize, prior: u32) -> usize
     requires { ⌜ (from ≤ «end») × («end» ≤ 1024) ⌝ }
@@ -53,7 +46,7 @@ fn entry_from(list: &[u32; 1024], from: usize, end: usize, prior: u32) -> usize
 {
     let mut s = from;
     while s < end {
-        if prior <= count_before(list[s]) {
+        if prior <= index::count_before(list[s]) {
             return s;
         }
         s += 1;

@@ -70,12 +70,12 @@ fn pass_own(
     let mut at = own;
     while at < end {
         let x = list[at];
-        let freed = walk::release(x % 256, events, waiting);
+        let freed = walk::release(index::event_of(x), events, waiting);
         at += 1;
         if freed != 0 {
             return Passed {
                 at: at,
-                to: basics::wide_index(x) / 65536 + 1,
+                to: basics::wide_index(index::count_before(x)) + 1,
                 freed: freed,
             };
         }

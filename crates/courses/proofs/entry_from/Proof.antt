@@ -27,7 +27,7 @@ count-before-requires c κs = search needs
 returns : tie.Need-returns Inv-loop μ-loop
 returns c =
     passed-entry (c .before .before .before .before .loop .inv)
-    (λ l. omega (arith, c .if1 .taken, c .before .count-before .ensures))
+    (λ l. omega (arith, c .if1 .taken, c .before .count-before .ensures .0))
 
 add-s : tie.Need-add-s Inv-loop μ-loop
 add-s c = search needs
@@ -38,7 +38,7 @@ loop-less c = search needs
 loop-again : tie.Need-loop-again Inv-loop μ-loop
 loop-again c =
     passed-next (c .before .before .before .before .loop .inv) (c .before .before .before .loop-test .taken)
-    (omega (arith, c .if1 .left, c .before .count-before .ensures))
+    (omega (arith, c .if1 .left, c .before .count-before .ensures .0))
 
 returns-2 : tie.Need-returns-2 Inv-loop μ-loop
 returns-2 c = passed-entry (c .before .loop .inv) (λ l. absurd (omega (arith, l, c .loop-test .left)))

@@ -28,11 +28,17 @@ element-copy-out-x c =
     let (up, few, words, room) = c .before .before .pre in
     omega (arith, few, c .loop-test .taken)
 
+event-of-requires : tie.Need-event-of-requires Inv-loop μ-loop
+event-of-requires c κs = search needs
+
 release-requires : tie.Need-release-requires Inv-loop μ-loop
 release-requires c κs = search needs
 
 add-at : tie.Need-add-at Inv-loop μ-loop
 add-at c = search needs
+
+count-before-requires : tie.Need-count-before-requires Inv-loop μ-loop
+count-before-requires c κs = search needs
 
 wide-index-requires : tie.Need-wide-index-requires Inv-loop μ-loop
 wide-index-requires c κs = search needs
@@ -43,21 +49,23 @@ add-t19 c = search needs
 returns : tie.Need-returns Inv-loop μ-loop
 returns c =
     let c6 = c .before .before .before .before .before .before in
+    let c8 = c6 .before .before in
     λ q.
-    let (freed, posted, cleared) = c .before .before .release .ensures in
-    rw (freed, posted, cleared, c .wide-index .ensures .0)
-    (passes-freed (c6 .before .loop .inv .1 q) (c6 .loop-test .taken))
+    let (freed, posted, cleared) = rw (c6 .event-of .ensures) at (c .before .before .before .release .ensures) in
+    rw (freed, posted, cleared, c .wide-index .ensures .0, c .before .count-before .ensures .0)
+    (passes-freed (c8 .before .loop .inv .1 q) (c8 .loop-test .taken))
 
 loop-less : tie.Need-loop-less Inv-loop μ-loop
 loop-less c = search needs
 
 loop-again : tie.Need-loop-again Inv-loop μ-loop
 loop-again c =
-    let c5 = c .before .before .before .before .before in
-    let (freed, posted, cleared) = c .before .release .ensures in
-    let l = c5 .loop-test .taken in
+    let c4 = c .before .before .before .before in
+    let c6 = c4 .before .before in
+    let (freed, posted, cleared) = rw (c4 .event-of .ensures) at (c .before .release .ensures) in
+    let l = c6 .loop-test .taken in
     let none = sym freed ∙ c .if1 .left in
-    (omega (arith, l), λ q. rw (posted, cleared) (passing-next (c5 .before .loop .inv .1 q) l none))
+    (omega (arith, l), λ q. rw (posted, cleared) (passing-next (c6 .before .loop .inv .1 q) l none))
 
 returns-2 : tie.Need-returns-2 Inv-loop μ-loop
 returns-2 c = λ q. passes-end (c .before .loop .inv .1 q) (c .loop-test .left)
@@ -71,8 +79,10 @@ pass-own-spec =
     loop-holds
     mul-x
     element-copy-out-x
+    event-of-requires
     release-requires
     add-at
+    count-before-requires
     wide-index-requires
     add-t19
     returns
