@@ -24,9 +24,7 @@ mul-x : tie.Need-mul-x Inv-loop μ-loop
 mul-x c = search needs
 
 element-copy-out-x : tie.Need-element-copy-out-x Inv-loop μ-loop
-element-copy-out-x c =
-    let (up, few, words, room) = c .before .before .pre in
-    omega (arith, few, c .loop-test .taken)
+element-copy-out-x c = omega (arith, c .before .before .pre .1, c .loop-test .taken)
 
 event-of-requires : tie.Need-event-of-requires Inv-loop μ-loop
 event-of-requires c κs = search needs

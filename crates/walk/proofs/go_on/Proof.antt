@@ -30,9 +30,7 @@ mul-x : tie.Need-mul-x Inv-loop μ-loop
 mul-x c = search needs
 
 element-copy-out-x : tie.Need-element-copy-out-x Inv-loop μ-loop
-element-copy-out-x c =
-    let (low, up, few, words, room) = c .before .before .pre in
-    omega (arith, few, c .loop-test .taken)
+element-copy-out-x c = omega (arith, c .before .before .pre .2, c .loop-test .taken)
 
 event-of-requires : tie.Need-event-of-requires Inv-loop μ-loop
 event-of-requires c κs = search needs
@@ -43,8 +41,7 @@ is-held-requires c κs = search needs
 enter-requires : tie.Need-enter-requires Inv-loop μ-loop
 enter-requires c κs =
     let c4 = c .before .before .before .before in
-    let (low, up, few, words, room) = c4 .before .before .before .before .pre in
-    (low, omega (arith, c4 .event-of .ensures))
+    (c4 .before .before .before .before .pre .0, omega (arith, c4 .event-of .ensures))
 
 count-before-requires : tie.Need-count-before-requires Inv-loop μ-loop
 count-before-requires c κs = search needs
@@ -57,11 +54,10 @@ returns c =
     let c3 = c .before .before .before in
     let c6 = c3 .before .before .before in
     let c8 = c6 .before .before in
-    let (low, up, few, words, room) = c8 .before .before .pre in
     let (x, clear) = c8 .before .loop .inv in
     let entered = rw (c6 .event-of .ensures) at (c .before .enter .ensures) in
     let held = sym (c3 .before .is-held .ensures) ∙ c3 .if1 .taken in
-    rw (c .count-before .ensures .0) (along-wait low x (c8 .loop-test .taken) held entered)
+    rw (c .count-before .ensures .0) (along-wait (c8 .before .before .pre .0) x (c8 .loop-test .taken) held entered)
 
 release-requires : tie.Need-release-requires Inv-loop μ-loop
 release-requires c κs = search needs
@@ -77,9 +73,8 @@ count-after-requires c κs = search needs
 
 with-requires : tie.Need-with-requires Inv-loop μ-loop
 with-requires c κs =
-    let c13 = c .before .before .before .before .before .before .before .before .before .before .before .before .before in
-    let (low, up, few, words, room) = c13 .pre in
-    low
+    let c7 = c .before .before .before .before .before .before .before in
+    c7 .before .before .before .before .before .before .pre .0
 
 returns-2 : tie.Need-returns-2 Inv-loop μ-loop
 returns-2 c =
@@ -87,12 +82,11 @@ returns-2 c =
     let c7 = c4 .before .before .before in
     let c10 = c7 .before .before .before in
     let c12 = c10 .before .before in
-    let (low, up, few, words, room) = c12 .before .before .pre in
     let (x, clear) = c12 .before .loop .inv in
     let free = sym (c7 .before .is-held .ensures) ∙ c7 .if1 .left in
     let (freed, events, waiting) = rw (c10 .event-of .ensures) at (c4 .release .ensures) in
     rw (c .before .count-after .ensures, events, waiting)
-    (along-yield low x (c12 .loop-test .taken) clear free (rw freed at (c .with .ensures)))
+    (along-yield (c12 .before .before .pre .0) x (c12 .loop-test .taken) clear free (rw freed at (c .with .ensures)))
 
 loop-less : tie.Need-loop-less Inv-loop μ-loop
 loop-less c = search needs
@@ -102,18 +96,16 @@ loop-again c =
     let c5 = c .before .before .before .before .before in
     let c8 = c5 .before .before .before in
     let c10 = c8 .before .before in
-    let (low, up, few, words, room) = c10 .before .before .pre in
     let (x, clear) = c10 .before .loop .inv in
     let free = sym (c5 .before .is-held .ensures) ∙ c5 .if1 .left in
     let (freed, events, waiting) = rw (c8 .event-of .ensures) at (c .before .before .release .ensures) in
     let apart = c .before .are-apart .result in
     let more = c .before .are-apart .ensures .0 (test-true _ .1 (not-fails apart (λ h. h, λ h. h) .0 (c .if2 .left))) in
-    rw (freed, events, waiting) (along-step low x (c10 .loop-test .taken) clear free (rw freed at more))
+    rw (freed, events, waiting)
+    (along-step (c10 .before .before .pre .0) x (c10 .loop-test .taken) clear free (rw freed at more))
 
 returns-3 : tie.Need-returns-3 Inv-loop μ-loop
-returns-3 c =
-    let (low, up, few, words, room) = c .before .before .pre in
-    along-end low (c .before .loop .inv .0) (c .loop-test .left)
+returns-3 c = along-end (c .before .before .pre .0) (c .before .loop .inv .0) (c .loop-test .left)
 
 pub go-on-spec : {M : Type 1} → statement M
 go-on-spec =
