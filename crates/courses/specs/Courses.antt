@@ -13,6 +13,7 @@ use Rattle.states.specs.States.{Exhausted}
 
 -- the lists lie inside the array, and the parts are in order
 pub record Opens (starts ends : List ℕ) : Type 0 where
+  pub room : length ends ≡ 16
   pub each : (q : ℕ) → q < 16
       → (getD starts q 0 ≤ getD ends q 0) × (getD ends q 0 ≤ 1024) × (getD starts q 0 ≤ getD starts (q + 1) 0)
 
@@ -36,12 +37,17 @@ pub record Courses (t : Trace) (a : ℕ) (starts list ends lasts : List ℕ) : T
   pub each : (q : ℕ) → q < 16
       → Follows t a list q (getD starts q 0) (getD ends q 0) (getD lasts q 0) 0
 
--- worker q's list ends at entry `at`, before the operation with `prior` earlier ones
-pub record Cut (list starts ends lasts : List ℕ) (q prior : ℕ) (ends′ lasts′ : List ℕ) : Type 0 where
+-- each worker stands at its list's start; worker q's list, which ended at its end among `ends`, ends at entry `at`,
+-- before its operation with `prior` earlier ones
+pub record BegunWithout (starts list ends : List ℕ) (q prior : ℕ) (nexts stops lasts : List ℕ) : Type 0 where
+  pub low : q < 16
+  pub opens : Opens starts ends
+  pub whole : List ℕ
+  pub begun : Begun starts nexts whole 16
   pub at : ℕ
   pub entry : Entry list (getD starts q 0) (getD ends q 0) prior at
-  pub stops : ends′ ≡ set ends q at
-  pub counts : lasts′ ≡ set lasts q prior
+  pub ends-cut : stops ≡ set ends q at
+  pub counts-cut : lasts ≡ set whole q prior
 
 -- a is the operation of worker q with this many earlier ones, in a trace of p workers whose lists these are
 pub record LeftOut (t : Trace) (p : ℕ) (starts list ends : List ℕ) (q prior a : ℕ) : Type 0 where

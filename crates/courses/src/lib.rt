@@ -3,13 +3,13 @@
 ghost use mathlib.Core.List.{List};
 ghost use mathlib.Core.Path.{_≡_};
 ghost use Prim.Native.Nat.{ℕ, _+_, _-_, _<_, _≤_};
-ghost use lib.ListN.{length, getD};
+ghost use lib.ListN.{length, getD, set};
 ghost use Rattle.trace.specs.Premises.{Fits};
 ghost use Rattle.trace.specs.Trace.{Trace, size};
 ghost use Rattle.index.specs.Steps.{Listed};
-ghost use Rattle.index.specs.Filling.{Copied};
 ghost use Rattle.states.specs.States.{Exhausted};
-ghost use Rattle.courses.specs.Courses.{Opens, Begun, Entry, Cut, LeftOut, Ended};
+ghost use Rattle.courses.specs.Courses.{Opens, Begun, Entry, BegunWithout};
+ghost use Rattle.courses.specs.Courses.{LeftOut, Ended};
 use walk::Walk;
 
 // Each worker at the start of its list, and how many operations it has.
@@ -23,18 +23,6 @@ pub fn begin(starts: &[u16; 17], nexts: &mut [u16; 16], lasts: &mut [u16; 16])
     while q < 16 {
         nexts[q] = starts[q];
         lasts[q] = starts[q + 1] - starts[q];
-        q += 1;
-    }
-}
-
-// Where each worker's list ends.
-pub fn copy_ends(ends: &[u16; 16], stops: &mut [u16; 16])
-    requires { ⌜ length (now stops) ≡ 16 ⌝ }
-    ensures { λ r. ⌜ Copied (now (ends .entry)) (now (stops .exit)) 16 ⌝ }
-{
-    let mut q: usize = 0;
-    while q < 16 {
-        stops[q] = ends[q];
         q += 1;
     }
 }
@@ -54,25 +42,46 @@ fn entry_from(list: &[u32; 1024], from: usize, end: usize, prior: u32) -> usize
     s
 }
 
-// Worker q's list ends before its operation with `prior` earlier ones.
-pub fn cut(
-    list: &[u32; 1024],
+// Each worker at the start of its list; worker q's list, whose end is whole in `stops`, now ends before its operation
+// with `prior` earlier ones.
+pub fn begin_without(
     starts: &[u16; 17],
+    list: &[u32; 1024],
     q: usize,
     prior: u16,
+    nexts: &mut [u16; 16],
     stops: &mut [u16; 16],
     lasts: &mut [u16; 16],
 )
     requires { ⌜ (q < 16)
-        × (getD (now starts) q 0 ≤ getD (now stops) q 0)
-        × (getD (now stops) q 0 ≤ 1024) ⌝ }
-    ensures { λ r. ⌜ Cut (now (list .entry)) (now (starts .entry)) (now (stops .entry)) (now (lasts .entry)) q prior
-        (now (stops .exit)) (now (lasts .exit)) ⌝ }
+        × Opens (now starts) (now stops)
+        × (length (now nexts) ≡ 16)
+        × (length (now lasts) ≡ 16) ⌝ }
+    ensures { λ r. ⌜ BegunWithout (now (starts .entry)) (now (list .entry)) (now (stops .entry)) q prior
+        (now (nexts .exit)) (now (stops .exit)) (now (lasts .exit)) ⌝ }
 {
+    begin(starts, nexts, lasts);
     let from = basics::index(starts[q]);
     let end = basics::index(stops[q]);
     stops[q] = entry_from(list, from, end, basics::wide(prior)) as u16;
     lasts[q] = prior;
+}
+
+// Lets the operation in that was left out: worker q's list is whole again.
+pub fn let_in(
+    starts: &[u16; 17],
+    ends: &[u16; 16],
+    q: usize,
+    stops: &mut [u16; 16],
+    lasts: &mut [u16; 16],
+)
+    requires { ⌜ (q < 16) × (getD (now starts) q 0 ≤ getD (now starts) (q + 1) 0) ⌝ }
+    ensures { λ r. ⌜ (now (stops .exit) ≡ set (now (stops .entry)) q (getD (now (ends .entry)) q 0))
+        × (now (lasts .exit) ≡ set (now (lasts .entry)) q
+        (getD (now (starts .entry)) (q + 1) 0 - getD (now (starts .entry)) q 0)) ⌝ }
+{
+    stops[q] = ends[q];
+    lasts[q] = starts[q + 1] - starts[q];
 }
 
 // The state at the end of the walk of p workers, with nothing left out.
@@ -121,13 +130,11 @@ pub fn walk_without(
 {
     let mut nexts = [0u16; 16];
     let mut lasts = [0u16; 16];
-    let mut stops = [0u16; 16];
+    let mut stops = *ends;
     let mut done = [0u16; 16];
     let mut events = [0u64; 4];
     let mut waiting = [0u16; 256];
-    begin(starts, &mut nexts, &mut lasts);
-    copy_ends(ends, &mut stops);
-    cut(list, starts, q, prior, &mut stops, &mut lasts);
+    begin_without(starts, list, q, prior, &mut nexts, &mut stops, &mut lasts);
     let all = masks::below(p as u32);
     walk::walk_on(
         list,
@@ -167,13 +174,11 @@ pub fn walk_twice(
 {
     let mut nexts = [0u16; 16];
     let mut lasts = [0u16; 16];
-    let mut stops = [0u16; 16];
+    let mut stops = *ends;
     let mut done = [0u16; 16];
     let mut events = [0u64; 4];
     let mut waiting = [0u16; 256];
-    begin(starts, &mut nexts, &mut lasts);
-    copy_ends(ends, &mut stops);
-    cut(list, starts, q, prior, &mut stops, &mut lasts);
+    begin_without(starts, list, q, prior, &mut nexts, &mut stops, &mut lasts);
     let all = masks::below(p as u32);
     walk::walk_on(
         list,
@@ -186,8 +191,7 @@ pub fn walk_twice(
         &mut waiting,
     );
     let held = done;
-    stops[q] = ends[q];
-    lasts[q] = starts[q + 1] - starts[q];
+    let_in(starts, ends, q, &mut stops, &mut lasts);
     let own = masks::with(0, q as u32);
     walk::walk_on(
         list,

@@ -12,45 +12,42 @@ use Rattle.masks.specs.Masks.{Below, With}
 use Rattle.model.specs.Computed.{heldBackRun}
 use Rattle.model.specs.Rule.{rule}
 use Rattle.model.proofs.RuleLaws.{rule-monotone, rule-in-turn, order-ascending, order-preference}
-use Rattle.index.specs.Filling.{Copied}
 use Rattle.states.proofs.Answers.{workers-known}
 use Rattle.walk.proofs.Turns.{going-closed, going-exhausted}
-use Rattle.courses.specs.Courses.{Opens, Begun, Cut, LeftOut}
-use Rattle.courses.proofs.Starting.{start-sized, cut-opens, let-in-sized, courses-cut, going-start, going-let-in}
+use Rattle.courses.specs.Courses.{BegunWithout, LeftOut}
+use Rattle.courses.proofs.Starting.{without-sized, let-in-sized, going-without, going-let-in}
 use Rattle.run_writer.specs.Writing.{Written, WritesRun}
 
 module _ {t : Trace} {p : ℕ} {starts list ends : List ℕ} {q prior b : ℕ} (x : LeftOut t p starts list ends q prior b)
-    (o : Opens starts ends) {nexts lasts stops stops′ lasts′ : List ℕ} (begun : Begun starts nexts lasts 16)
-    (same : Copied ends stops 16) (low : q < 16) (y : Cut list starts stops lasts q prior stops′ lasts′) where
+    {nexts stops lasts : List ℕ} (y : BegunWithout starts list ends q prior nexts stops lasts) where
   -- ---- the start
 
   pub written-start : {all : ℕ} → Below p all → {run : List ℕ} → length run ≡ 1024
-      → Written t b [] list stops′ lasts′ nexts (replicate 16 0) (replicate 4 0) (replicate 256 0) all 0 run
+      → Written t b [] list stops lasts nexts (replicate 16 0) (replicate 4 0) (replicate 256 0) all 0 run
   written-start all room =
       record {
         more = [];
-        going = going-start (x .fits) (courses-cut x begun same low y) (λ r l. begun .each r l .0)
-            (rw (← x .workers) at all);
+        going = going-without x y all;
         lowest = no-step;
-        sized = start-sized (cut-opens o begun same low y) begun refl refl refl;
+        sized = without-sized y refl refl refl;
         long = refl;
         room = room;
         front = refl;
       }
 
   module _ {nexts′ counts events waiting run : List ℕ} {at : ℕ}
-      (w : Written t b [] list stops′ lasts′ nexts′ counts events waiting 0 at run) where
+      (w : Written t b [] list stops lasts nexts′ counts events waiting 0 at run) where
     -- ---- the operation is let in
 
-    pub written-let-in : {own : ℕ} → With 0 q own
-        → Written t (size t) (w .more) list (set stops′ q (getD ends q 0))
-        (set lasts′ q (getD starts (q + 1) 0 - getD starts q 0)) nexts′ counts events waiting own at run
-    written-let-in own =
+    pub written-let-in : {stops′ lasts′ : List ℕ} {own : ℕ}
+        → (stops′ ≡ set stops q (getD ends q 0)) × (lasts′ ≡ set lasts q (getD starts (q + 1) 0 - getD starts q 0))
+        → With 0 q own → Written t (size t) (w .more) list stops′ lasts′ nexts′ counts events waiting own at run
+    written-let-in i own =
         record {
           more = [];
-          going = rw append-nil (going-let-in x begun same low y (w .going) own);
+          going = rw append-nil (going-let-in x y (w .going) i own);
           lowest = no-step;
-          sized = let-in-sized o begun same low y (w .sized);
+          sized = let-in-sized y (w .sized) (i .0);
           long = rw append-nil (w .long);
           room = w .room;
           front = rw append-nil (w .front);
@@ -58,8 +55,8 @@ module _ {t : Trace} {p : ℕ} {starts list ends : List ℕ} {q prior b : ℕ} (
 
     -- ---- the run
 
-    module _ {stops″ lasts″ nexts″ counts″ events″ waiting″ run″ : List ℕ} {at″ : ℕ}
-        (v : Written t (size t) (w .more) list stops″ lasts″ nexts″ counts″ events″ waiting″ 0 at″ run″) where
+    module _ {stops′ lasts′ nexts″ counts″ events″ waiting″ run″ : List ℕ} {at″ : ℕ}
+        (v : Written t (size t) (w .more) list stops′ lasts′ nexts″ counts″ events″ waiting″ 0 at″ run″) where
       holds : HoldsBack (workerOf t) (rule t) b (w .more ++ v .more)
       holds =
           record {

@@ -8,12 +8,7 @@ ghost use Rattle.trace.specs.Trace.{Trace};
 ghost use Rattle.index.specs.Indexed.{Places};
 ghost use Rattle.courses.specs.Courses.{LeftOut};
 ghost use Rattle.run_writer.specs.Writing.{Written, Writing, Runnable, WritesRun};
-
-// The done counts at the end of the walk without an operation, and, with that let in, at the end of the whole walk.
-pub struct Ends {
-    pub held: [u16; 16],
-    pub whole: [u16; 16],
-}
+use courses::Twice;
 
 // Copies so many operations, those from place `from` of the order on, to places `at` and on of the run.
 fn copy(order: &[u16; 1024], from: usize, count: usize, run: &mut [u16; 1024], at: usize)
@@ -91,7 +86,7 @@ pub fn write_run(
     q: usize,
     prior: u16,
     run: &mut [u16; 1024],
-) -> Ends
+) -> Twice
     requires { ⌜ (p ≤ 16)
         × (q < 16)
         × Runnable p (now order) (now starts) (now list) (now ends) q prior
@@ -102,13 +97,11 @@ pub fn write_run(
 {
     let mut nexts = [0u16; 16];
     let mut lasts = [0u16; 16];
-    let mut stops = [0u16; 16];
+    let mut stops = *ends;
     let mut done = [0u16; 16];
     let mut events = [0u64; 4];
     let mut waiting = [0u16; 256];
-    courses::begin(starts, &mut nexts, &mut lasts);
-    courses::copy_ends(ends, &mut stops);
-    courses::cut(list, starts, q, prior, &mut stops, &mut lasts);
+    courses::begin_without(starts, list, q, prior, &mut nexts, &mut stops, &mut lasts);
     let all = masks::below(p as u32);
     let at = write_walk(
         order,
@@ -125,8 +118,7 @@ pub fn write_run(
         run,
     );
     let held = done;
-    stops[q] = ends[q];
-    lasts[q] = starts[q + 1] - starts[q];
+    courses::let_in(starts, ends, q, &mut stops, &mut lasts);
     let own = masks::with(0, q as u32);
     write_walk(
         order,
@@ -142,7 +134,7 @@ pub fn write_run(
         at,
         run,
     );
-    Ends {
+    Twice {
         held: held,
         whole: done,
     }

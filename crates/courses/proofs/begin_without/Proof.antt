@@ -1,8 +1,14 @@
--- `cut` meets its contract. Assumes nothing.
+-- `begin_without` meets its contract. Assumes nothing.
 use mathlib.Core.Path.{refl}
+use native.Mathlib.Omega.{arith}
 use borrow.Author.Needs.{needs}
-use Rattle.courses.proofs.cut.Statement.{statement}
-use Rattle.courses.proofs.cut.Tie as tie
+use Rattle.courses.proofs.begin_without.Statement.{statement}
+use Rattle.courses.proofs.begin_without.Tie as tie
+
+begin-requires : tie.Need-begin-requires
+begin-requires c κs =
+    let (low, o, places, counts) = c .before .before .pre in
+    (λ r l. o .each r l .2, places, counts)
 
 mul-index : tie.Need-mul-index
 mul-index c = search needs
@@ -26,7 +32,12 @@ wide-requires : tie.Need-wide-requires
 wide-requires c κs = search needs
 
 entry-from-requires : tie.Need-entry-from-requires
-entry-from-requires c κs = search needs
+entry-from-requires c κs =
+    let c8 = c .before .before .before .before .before .before .before .before in
+    let (low, o, places, counts) = c8 .pre in
+    let from = c .before .before .before .index .ensures .0 in
+    let end = c .before .index2 .ensures .0 in
+    (omega (arith, from, end, o .each _ low .0), omega (arith, end, o .each _ low .1))
 
 cast-stops : tie.Need-cast-stops
 cast-stops c = search needs
@@ -45,20 +56,27 @@ element-write-lasts c = search needs
 
 returns : tie.Need-returns
 returns c =
+    let c6 = c .before .before .before .before .before .before in
+    let (low, o, places, counts) = c6 .before .before .before .pre in
     let from = c .before .before .before .before .index .ensures .0 in
     let end = c .before .before .index2 .ensures .0 in
     let prior = c .before .wide .ensures .0 in
     record {
+      low = low;
+      opens = o;
+      whole = _;
+      begun = c6 .begin .ensures;
       at = c .entry-from .result;
       entry = rw (from, end, prior) at (c .entry-from .ensures);
-      stops = refl;
-      counts = refl;
+      ends-cut = refl;
+      counts-cut = refl;
     }
 
-pub cut-spec : {M : Type 1} → statement M
-cut-spec =
+pub begin-without-spec : {M : Type 1} → statement M
+begin-without-spec =
     tie.close
     (tie.spec
+    begin-requires
     mul-index
     element-copy-out-index
     index-requires
