@@ -86,19 +86,6 @@ module _ {bytes : List ℕ} {p n : ℕ} {order starts list ends : List ℕ}
         ahead = sym i;
       }
 
-  -- by the counts of the accepted file, which are the same
-  pub readable-same : {w m : ℕ} → HoldsTrace bytes w m → Readable bytes w m order starts list ends
-  readable-same h = record { holds = h; handed = x .handed }
-
-  pub pair-same : {w m a b : ℕ} → HoldsTrace bytes w m → Pair n a b → Pair m a b
-  pair-same h y =
-      let same = sym (x .holds .count) ∙ h .count in
-      record {
-        first-below = omega (arith, y .first-below, same);
-        second-below = omega (arith, y .second-below, same);
-        differ = y .differ;
-      }
-
 module _ {bytes : List ℕ} {n : ℕ} {order starts : List ℕ} (x : Operations bytes n order starts) where
   pub operations-places : Places (traceOf bytes) n order starts
   operations-places = holds-places (x .holds) (x .indexed)
@@ -113,31 +100,34 @@ module _ {bytes : List ℕ} {n : ℕ} {order starts : List ℕ} (x : Operations 
       let low : q < 16 = omega (arith, worker-known l e, x .holds .workers, x .holds .most) in
       (low, parts-few (x .holds) (x .indexed) q low)
 
-module _ {bytes : List ℕ} {p n : ℕ} (h : AcceptedTrace bytes (traceOf bytes) × HoldsTrace bytes p n) (a b : ℕ)
-  where
-    -- no pair, and both below n: the same number
-    pub none-same : {w m : ℕ} → HoldsTrace bytes w m → NoPair m a b → a < n → b < n → a ≡ b
-    none-same x (inl l) i j = absurd (omega (arith, l, i, h .1 .count, x .count))
-    none-same x (inr (inl l)) i j = absurd (omega (arith, l, j, h .1 .count, x .count))
-    none-same x (inr (inr e)) i j = e
+module _ {bytes : List ℕ} {p n : ℕ} (accepted : AcceptedTrace bytes (traceOf bytes)) (h : HoldsTrace bytes p n)
+    (a b : ℕ) where
+  numbers : a < n → b < n → AcceptedNumbers bytes a b (traceOf bytes)
+  numbers i j = record { accepted = accepted; first-below = rw (h .count) i; second-below = rw (h .count) j }
 
-    pub answer-high : (n ≤ a) ⊎ (n ≤ b) → Refused 12 0 ≡ orderAnswer bytes a b
-    answer-high s = answer-by bytes a b (pair-comes-out bytes a b .refuses 12 0 .1 (by-earlier high))
-      where
-        high : RefusedNumbers bytes a b 12 0
-        high = by-this (traceOf bytes) (h .0) (rw (h .1 .count) s) refl refl
+  pub accepted-pair : Pair n a b → AcceptedPair bytes a b (traceOf bytes)
+  accepted-pair y = record { numbers = numbers (y .first-below) (y .second-below); differ = y .differ }
 
-    module _ (i : a < n) (j : b < n) where
-      numbers : AcceptedNumbers bytes a b (traceOf bytes)
-      numbers = record { accepted = h .0; first-below = rw (h .1 .count) i; second-below = rw (h .1 .count) j }
+  pub answer-ordered : Pair n a b → {r : OrderAnswer} → r ≡ Ordered (pairOrder (traceOf bytes) a b)
+      → r ≡ orderAnswer bytes a b
+  answer-ordered y e = e ∙ answer-pair bytes a b (accepted-pair y)
 
-      pub answer-same : a ≡ b → Refused 13 0 ≡ orderAnswer bytes a b
-      answer-same e =
-          answer-by bytes a b (pair-comes-out bytes a b .refuses 13 0 .1 (by-this (traceOf bytes) numbers e refl refl))
+  pub answer-high : (n ≤ a) ⊎ (n ≤ b) → Refused 12 0 ≡ orderAnswer bytes a b
+  answer-high s = answer-by bytes a b (pair-comes-out bytes a b .refuses 12 0 .1 (by-earlier high))
+    where
+      high : RefusedNumbers bytes a b 12 0
+      high = by-this (traceOf bytes) accepted (rw (h .count) s) refl refl
 
-      pub answer-ordered : a ≢ b → {r : OrderAnswer} → r ≡ Ordered (pairOrder (traceOf bytes) a b)
-          → r ≡ orderAnswer bytes a b
-      answer-ordered d e = e ∙ answer-pair bytes a b (record { numbers = numbers; differ = d })
+  -- no pair, and both below n: the same number
+  pub answer-same : NoPair n a b → a < n → b < n → Refused 13 0 ≡ orderAnswer bytes a b
+  answer-same none i j =
+      let refusal = by-this (traceOf bytes) (numbers i j) (same none) refl refl in
+      answer-by bytes a b (pair-comes-out bytes a b .refuses 13 0 .1 refusal)
+    where
+      same : NoPair n a b → a ≡ b
+      same (inl l) = absurd (omega (arith, l, i))
+      same (inr (inl l)) = absurd (omega (arith, l, j))
+      same (inr (inr e)) = e
 
 pub answer-unaccepted : (bytes : List ℕ) (a b : ℕ) {q k : ℕ} → acceptAnswer bytes ≡ accept.Refused q k
     → Refused q k ≡ orderAnswer bytes a b

@@ -42,8 +42,8 @@ pub fn is_pair(operations: u32, a: u32, b: u32) -> bool
 // Which question refuses two numbers that are no pair: 10, 12 or 13.
 pub fn refuse(
     file: &[u8],
-    workers: u8,
-    operations: u32,
+    p: u8,
+    n: u32,
     order: &[u16; 1024],
     starts: &[u16; 17],
     list: &[u32; 1024],
@@ -51,15 +51,12 @@ pub fn refuse(
     a: u32,
     b: u32,
 ) -> Refusal
-    requires { ⌜ Readable (now file) workers operations (now order) (now starts) (now list) (now ends)
-        × NoPair operations a b ⌝ }
+    requires { ⌜ Readable (now file) p n (now order) (now starts) (now list) (now ends)
+        × NoPair n a b ⌝ }
     ensures { λ r. ⌜ Refused (r .number) (r .place) ≡ orderAnswer (now (file .entry)) a b ⌝ }
 {
-    match accept::accept_if_complete(file, workers, operations, order, starts, list, ends) {
-        AcceptAnswer::Accepted {
-            workers: p,
-            operations: n,
-        } => {
+    match accept::accept_if_complete(file, p, n, order, starts, list, ends) {
+        AcceptAnswer::Accepted { .. } => {
             if n <= a {
                 return Refusal {
                     number: 12,
@@ -106,14 +103,8 @@ pub fn must_precede(
 }
 
 // How many of its worker's operations come before operation k.
-pub fn count_prior(
-    file: &[u8],
-    operations: u32,
-    order: &[u16; 1024],
-    starts: &[u16; 17],
-    k: usize,
-) -> u16
-    requires { ⌜ Operations (now file) operations (now order) (now starts) × (k < operations) ⌝ }
+pub fn count_prior(file: &[u8], n: u32, order: &[u16; 1024], starts: &[u16; 17], k: usize) -> u16
+    requires { ⌜ Operations (now file) n (now order) (now starts) × (k < n) ⌝ }
     ensures { λ r. ⌜ r ≡ earlier (workerOf (traceOf (now (file .entry)))) k ⌝ }
 {
     places::count_prior(order, starts, trace::worker_of(file, k) as usize, k)
@@ -122,25 +113,25 @@ pub fn count_prior(
 // The second direction, where a need not precede b: by the walk without b.
 fn order_back(
     file: &[u8],
-    workers: u8,
-    operations: u32,
+    p: u8,
+    n: u32,
     order: &[u16; 1024],
     starts: &[u16; 17],
     list: &[u32; 1024],
     ends: &[u16; 16],
-    a: usize,
-    b: usize,
+    a: u32,
+    b: u32,
 ) -> OrderAnswer
-    requires { ⌜ Readable (now file) workers operations (now order) (now starts) (now list) (now ends)
-        × Pair operations a b
+    requires { ⌜ Readable (now file) p n (now order) (now starts) (now list) (now ends)
+        × Pair n a b
         × (mustPrecedeIn (traceOf (now file)) a b ≡ false) ⌝ }
     ensures { λ r. ⌜ r ≡ Ordered (pairOrder (traceOf (now (file .entry))) a b) ⌝ }
 {
-    let prior = count_prior(file, operations, order, starts, b);
-    let q = trace::worker_of(file, b) as usize;
-    let end = courses::walk_without(workers as usize, q, prior, starts, list, ends);
+    let prior = count_prior(file, n, order, starts, b as usize);
+    let q = trace::worker_of(file, b as usize) as usize;
+    let end = courses::walk_without(p as usize, q, prior, starts, list, ends);
     let done = end.done;
-    if must_precede(file, operations, order, starts, &done, b, a) {
+    if must_precede(file, n, order, starts, &done, b as usize, a as usize) {
         return OrderAnswer::Ordered { sign: 1 };
     }
     OrderAnswer::Ordered { sign: 0 }
@@ -150,30 +141,27 @@ fn order_back(
 // direction.
 fn order_between(
     file: &[u8],
-    workers: u8,
-    operations: u32,
+    p: u8,
+    n: u32,
     order: &[u16; 1024],
     starts: &[u16; 17],
     list: &[u32; 1024],
     ends: &[u16; 16],
-    a: usize,
-    b: usize,
+    a: u32,
+    b: u32,
 ) -> OrderAnswer
-    requires { ⌜ Readable (now file) workers operations (now order) (now starts) (now list) (now ends)
-        × Pair operations a b ⌝ }
+    requires { ⌜ Readable (now file) p n (now order) (now starts) (now list) (now ends)
+        × Pair n a b ⌝ }
     ensures { λ r. ⌜ r ≡ orderAnswer (now (file .entry)) a b ⌝ }
 {
-    let prior = count_prior(file, operations, order, starts, a);
-    let q = trace::worker_of(file, a) as usize;
-    let end = courses::walk_twice(workers as usize, q, prior, starts, list, ends);
+    let prior = count_prior(file, n, order, starts, a as usize);
+    let q = trace::worker_of(file, a as usize) as usize;
+    let end = courses::walk_twice(p as usize, q, prior, starts, list, ends);
     let held = end.held;
     let whole = end.whole;
-    match accept::accept_if_done(file, workers, operations, order, starts, &whole) {
-        AcceptAnswer::Accepted {
-            workers: p,
-            operations: n,
-        } => {
-            if must_precede(file, n, order, starts, &held, a, b) {
+    match accept::accept_if_done(file, p, n, order, starts, &whole) {
+        AcceptAnswer::Accepted { .. } => {
+            if must_precede(file, n, order, starts, &held, a as usize, b as usize) {
                 return OrderAnswer::Ordered { sign: -1 };
             }
             order_back(file, p, n, order, starts, list, ends, a, b)
@@ -188,8 +176,8 @@ fn order_between(
 // The order of two numbers of a file that reads as a trace, or the refusal by 10, 12 or 13.
 fn order_if_pair(
     file: &[u8],
-    workers: u8,
-    operations: u32,
+    p: u8,
+    n: u32,
     order: &[u16; 1024],
     starts: &[u16; 17],
     list: &[u32; 1024],
@@ -197,23 +185,13 @@ fn order_if_pair(
     a: u32,
     b: u32,
 ) -> OrderAnswer
-    requires { ⌜ Readable (now file) workers operations (now order) (now starts) (now list) (now ends) ⌝ }
+    requires { ⌜ Readable (now file) p n (now order) (now starts) (now list) (now ends) ⌝ }
     ensures { λ r. ⌜ r ≡ orderAnswer (now (file .entry)) a b ⌝ }
 {
-    if is_pair(operations, a, b) {
-        return order_between(
-            file,
-            workers,
-            operations,
-            order,
-            starts,
-            list,
-            ends,
-            a as usize,
-            b as usize,
-        );
+    if is_pair(n, a, b) {
+        return order_between(file, p, n, order, starts, list, ends, a, b);
     }
-    let no = refuse(file, workers, operations, order, starts, list, ends, a, b);
+    let no = refuse(file, p, n, order, starts, list, ends, a, b);
     OrderAnswer::Refused {
         number: no.number,
         place: no.place,

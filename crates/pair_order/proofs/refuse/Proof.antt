@@ -3,39 +3,39 @@ use mathlib.Core.Logic.{inl, inr}
 use mathlib.Core.Path.{sym, _∙_}
 use borrow.Author.Needs.{needs}
 use Rattle.accept.proofs.Answers.{answer-accepts}
-use Rattle.pair_order.proofs.Answers.{none-same, answer-high, answer-same, answer-unaccepted}
+use Rattle.pair_order.proofs.Answers.{answer-high, answer-same, answer-unaccepted}
 use Rattle.pair_order.proofs.refuse.Statement.{statement}
 use Rattle.pair_order.proofs.refuse.Tie as tie
 
 accept-if-complete-requires : tie.Need-accept-if-complete-requires
 accept-if-complete-requires c κs = search needs
 
-enum-known-p : tie.Need-enum-known-p
-enum-known-p c = search needs
+enum-told : tie.Need-enum-told
+enum-told c = search needs
 
 returns : tie.Need-returns
 returns c =
-    let h = answer-accepts _ _ _ (sym (c .before .before .before .before .accept-if-complete .ensures) ∙
-    c .before .before .p .given .1) in
-    answer-high h _ _ (inl (c .if1 .taken))
+    let c3 = c .before .before .before in
+    let h = answer-accepts _ _ _ (sym (c3 .accept-if-complete .ensures) ∙ c .before .enum-told .given .1) in
+    let (x, none) = c3 .before .before .pre in
+    answer-high (h .0) (x .holds) _ _ (inl (c .if1 .taken))
 
 returns-2 : tie.Need-returns-2
 returns-2 c =
-    let c3 = c .before .before .before in
-    let h = answer-accepts _ _ _ (sym (c3 .before .before .accept-if-complete .ensures) ∙ c3 .p .given .1) in
-    answer-high h _ _ (inr (c .if2 .taken))
+    let c4 = c .before .before .before .before in
+    let h = answer-accepts _ _ _ (sym (c4 .accept-if-complete .ensures) ∙ c .before .before .enum-told .given .1) in
+    let (x, none) = c4 .before .before .pre in
+    answer-high (h .0) (x .holds) _ _ (inr (c .if2 .taken))
 
 enum-known-number : tie.Need-enum-known-number
 enum-known-number c = search needs
 
 returns-3 : tie.Need-returns-3
 returns-3 c =
-    let c3 = c .before .before .before in
-    let c7 = c3 .before .before .before .before in
-    let (x, none) = c7 .pre in
-    let h = answer-accepts _ _ _ (sym (c3 .before .before .accept-if-complete .ensures) ∙ c3 .p .given .1) in
-    answer-same h _ _ (c .before .if1 .left) (c .if2 .left)
-    (none-same h _ _ (x .holds) none (c .before .if1 .left) (c .if2 .left))
+    let c4 = c .before .before .before .before in
+    let h = answer-accepts _ _ _ (sym (c4 .accept-if-complete .ensures) ∙ c .before .before .enum-told .given .1) in
+    let (x, none) = c4 .before .before .pre in
+    answer-same (h .0) (x .holds) _ _ none (c .before .if1 .left) (c .if2 .left)
 
 returns-4 : tie.Need-returns-4
 returns-4 c =
@@ -47,7 +47,7 @@ refuse-spec =
     tie.close
     (tie.spec
     accept-if-complete-requires
-    enum-known-p
+    enum-told
     returns
     returns-2
     enum-known-number
