@@ -1,5 +1,4 @@
--- The runs before they are written to the buffers. In order: what the writer of a run asks; the pair; a run found;
--- both.
+-- The runs before they are written to the buffers. In order: what the writer of a run asks; a run found; both.
 use mathlib.Core.List.{List}
 use mathlib.Core.Path.{_≡_, _∙_}
 use Prim.Native.Nat.{ℕ, _<_}
@@ -13,8 +12,7 @@ use Rattle.index.proofs.Lookups.{holds-places}
 use Rattle.accept.specs.Acceptance.{AcceptedTrace}
 use Rattle.accept.proofs.Questions.{accepted-workers, accepted-run}
 use Rattle.lent.specs.Written.{writtenOver}
-use Rattle.pair_order.specs.Premises.{Readable, Pair}
-use Rattle.pair_order.specs.Refusals.{AcceptedPair}
+use Rattle.pair_order.specs.Premises.{Readable}
 use Rattle.pair_order.proofs.Answers.{readable-opens, readable-left-out}
 use Rattle.run_writer.specs.Writing.{Runnable, WritesRun}
 use Rattle.two_runs.specs.Premises.{RunFound, BothFound, BothWritten}
@@ -35,27 +33,14 @@ readable-runnable {bytes} {n = n} x {k} l e i =
       left-out = readable-left-out x l e i;
     }
 
-module _ {bytes : List ℕ} {p n : ℕ} (accepted : AcceptedTrace bytes (traceOf bytes)) (h : HoldsTrace bytes p n) where
-  -- ---- the pair
+-- ---- a run holds all n operations
 
-  pub accepted-pair : {a b : ℕ} → Pair n a b → AcceptedPair bytes a b (traceOf bytes)
-  accepted-pair y =
-      record {
-        numbers = record {
-          accepted = accepted;
-          first-below = rw (h .count) (y .first-below);
-          second-below = rw (h .count) (y .second-below);
-        };
-        differ = y .differ;
-      }
-
-  -- ---- a run holds all n operations
-
-  pub run-found : {late : ℕ} {held whole run : List ℕ} → WritesRun (traceOf bytes) late held whole run
-      → RunFound (traceOf bytes) n late run
-  run-found {late} w =
-      let all = held-back-length (accepted-workers accepted) (accepted-run accepted) late ∙ h .count in
-      record { room = w .room; front = rw all at (w .front) }
+pub run-found : {bytes : List ℕ} {p n : ℕ} → AcceptedTrace bytes (traceOf bytes) → HoldsTrace bytes p n
+    → {late : ℕ} {held whole run : List ℕ} → WritesRun (traceOf bytes) late held whole run
+    → RunFound (traceOf bytes) n late run
+run-found accepted h {late} w =
+    let all = held-back-length (accepted-workers accepted) (accepted-run accepted) late ∙ h .count in
+    record { room = w .room; front = rw all at (w .front) }
 
 -- ---- both, copied
 

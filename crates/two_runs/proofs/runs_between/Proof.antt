@@ -3,8 +3,9 @@ use mathlib.Core.Logic.{inr}
 use mathlib.Core.Path.{sym, _∙_}
 use borrow.Author.Needs.{needs}
 use Rattle.accept.proofs.Answers.{answer-accepts}
+use Rattle.pair_order.proofs.Answers.{accepted-pair}
 use Rattle.two_runs.proofs.Answers.{call-ordered, call-refused}
-use Rattle.two_runs.proofs.Found.{accepted-pair, run-found}
+use Rattle.two_runs.proofs.Found.{run-found}
 use Rattle.two_runs.proofs.runs_between.Statement.{statement}
 use Rattle.two_runs.proofs.runs_between.Tie as tie
 
@@ -26,7 +27,7 @@ returns c =
     let c14 = c3 .before .before .before .before .before .before .before .before .before .before .before in
     let (x, y) = c14 .pre in
     let h = answer-accepts _ _ _ (sym (c3 .before .before .accept-if-done .ensures) ∙ c3 .enum-told .given .1) in
-    call-ordered _ _ _ _ _ (accepted-pair (h .0) (x .holds) y)
+    call-ordered _ _ _ _ _ (accepted-pair (h .0) (x .holds) _ _ y)
     (inr (sym (c .before .must-precede .ensures) ∙ c .if1 .taken))
 
 runs-if-unordered-requires : tie.Need-runs-if-unordered-requires

@@ -2,8 +2,9 @@
 use mathlib.Core.Logic.{inl}
 use mathlib.Core.Path.{sym, _∙_}
 use borrow.Author.Needs.{needs}
+use Rattle.pair_order.proofs.Answers.{accepted-pair}
 use Rattle.two_runs.proofs.Answers.{pair-unordered, call-ordered}
-use Rattle.two_runs.proofs.Found.{accepted-pair, run-found}
+use Rattle.two_runs.proofs.Found.{run-found}
 use Rattle.two_runs.proofs.runs_if_unordered.Statement.{statement}
 use Rattle.two_runs.proofs.runs_if_unordered.Tie as tie
 
@@ -17,7 +18,7 @@ returns : tie.Need-returns
 returns c =
     let c9 = c .before .before .before .before .before .before .before .before .before in
     let (accepted, x, y, e, f) = c9 .pre in
-    call-ordered _ _ _ _ _ (accepted-pair accepted (x .holds) y)
+    call-ordered _ _ _ _ _ (accepted-pair accepted (x .holds) _ _ y)
     (inl (sym (c .before .must-precede .ensures) ∙ c .if1 .taken))
 
 runs-if-room-requires : tie.Need-runs-if-room-requires
@@ -26,7 +27,7 @@ runs-if-room-requires c κs =
     let c7 = c3 .before .before .before .before in
     let (accepted, x, y, e, f) = c7 .before .before .before .before .before .pre in
     record {
-      unordered = pair-unordered (accepted-pair accepted (x .holds) y)
+      unordered = pair-unordered (accepted-pair accepted (x .holds) _ _ y)
           (sym (c3 .before .must-precede .ensures) ∙ c3 .if1 .left) e;
       workers = _;
       holds = x .holds;
