@@ -157,8 +157,9 @@ module _ {t : Trace} {p : ℕ} {starts list ends : List ℕ} {q prior a : ℕ} (
             (getD (set lasts q (getD starts (q + 1) 0 - getD starts q 0)) v 0) (getD counts v 0)
         follows v l (inl e) =
             let old = rw (stop-own y, count-own y) at (g .follows q (y .low) (λ z. omega (arith, z, y .low))) in
-            let last = y .begun .each q (y .low) .1 in
-            rw (e, getD-set-same stops q (getD ends q 0) 0 (stop-room y), getD-set-same lasts q _ 0 (count-room y), ← last)
+            let stop = getD-set-same stops q (getD ends q 0) 0 (stop-room y) in
+            let last = getD-set-same lasts q _ 0 (count-room y) ∙ sym (y .begun .each q (y .low) .1) in
+            rw (e, stop, last)
             (cut-whole (whole .each q (y .low)) own-here (x .below) (y .entry) old)
         follows v l (inr n) =
             rw (getD-set-other stops q v (getD ends q 0) 0 n, getD-set-other lasts q v _ 0 n)

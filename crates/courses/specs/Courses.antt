@@ -11,7 +11,7 @@ use Rattle.trace.specs.Trace.{Trace, size, workerOf}
 use Rattle.index.specs.Steps.{ahead, Follows, Listed}
 use Rattle.states.specs.States.{Exhausted}
 
--- the lists lie inside the array, and the parts are in order
+-- each of the sixteen lists lies inside the array, and the parts are in order
 pub record Opens (starts ends : List ℕ) : Type 0 where
   pub room : length ends ≡ 16
   pub each : (q : ℕ) → q < 16
@@ -37,8 +37,8 @@ pub record Courses (t : Trace) (a : ℕ) (starts list ends lasts : List ℕ) : T
   pub each : (q : ℕ) → q < 16
       → Follows t a list q (getD starts q 0) (getD ends q 0) (getD lasts q 0) 0
 
--- each worker stands at its list's start; worker q's list, which ended at its end among `ends`, ends at entry `at`,
--- before its operation with `prior` earlier ones
+-- each worker stands at its list's start; the lists end at `ends`, but for worker q's, which ends at entry `at`, before
+-- its operation with `prior` earlier ones
 pub record BegunWithout (starts list ends : List ℕ) (q prior : ℕ) (nexts stops lasts : List ℕ) : Type 0 where
   pub low : q < 16
   pub opens : Opens starts ends

@@ -1,7 +1,7 @@
 -- The run that holds an operation back, in two walks. In order: the start; the operation is let in; the run.
 use mathlib.Core.List.{List, [], _++_, append-nil}
 use mathlib.Core.Path.{_≡_, refl}
-use Prim.Native.Nat.{ℕ, _+_, _-_, _<_}
+use Prim.Native.Nat.{ℕ, _+_, _-_}
 use lib.ListN.{length, getD, set, replicate}
 use Rattle.runs.specs.Workers.{HoldsBack, no-step}
 use Rattle.runs.proofs.Done.{done-append}

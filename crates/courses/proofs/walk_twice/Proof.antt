@@ -9,9 +9,7 @@ use Rattle.courses.proofs.walk_twice.Statement.{statement}
 use Rattle.courses.proofs.walk_twice.Tie as tie
 
 begin-without-requires : tie.Need-begin-without-requires
-begin-without-requires c κs =
-    let (few, low, o) = c .before .before .before .before .pre in
-    (low, o, refl, refl)
+begin-without-requires c κs = search needs
 
 cast-below : tie.Need-cast-below
 cast-below c = search needs
