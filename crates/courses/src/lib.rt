@@ -42,8 +42,8 @@ fn entry_from(list: &[u32; 1024], from: usize, end: usize, prior: u32) -> usize
     s
 }
 
-// Each worker at the start of its list; of the lists' ends, in `stops`, worker q's is moved to before its operation with
-// `prior` earlier ones.
+// Each worker at the start of its list; of the lists' ends, in `stops`, worker q's is moved to before its operation
+// with `prior` earlier ones.
 pub fn begin_without(
     starts: &[u16; 17],
     list: &[u32; 1024],
