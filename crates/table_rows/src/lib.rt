@@ -158,6 +158,7 @@ fn fill_worker(
         let to = s.to;
         put_rows(p, order, starts, q, from, to, &done, table);
         if last <= to {
+            // The done counts are those of the last row; no one reads them here.
             done[q] = (last - 1) as u16;
             return;
         }

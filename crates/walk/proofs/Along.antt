@@ -17,7 +17,7 @@ use Rattle.masks.proofs.Sets.{in-either}
 use Rattle.index.specs.Steps.{operationAt, ahead, holds, event, reached, Follows}
 use Rattle.index.proofs.Covering.{reached-in, reached-end, between-none}
 use Rattle.states.specs.States.{EndsRun, Blocked, nextOf}
-use Rattle.walk.specs.Going.{Stopped, at-end, at-left-out, at-event, Entered, Moved, LowerStopped, Lowest}
+use Rattle.walk.specs.Going.{Stopped, at-end, at-left-out, at-event, Entered, Moved, LowerStopped, LowestStretch}
 use Rattle.walk.specs.Going.{Along, Went}
 use Rattle.walk.proofs.Releasing.{released-none, released-step, released-enter, entered, released-own, still}
 use Rattle.walk.proofs.Releasing.{stopped-blocked}
@@ -113,7 +113,7 @@ module _ {list : List ℕ} {q below from end last : ℕ} (low : q < 16) where
 
           lowest : (t : Trace) (a : ℕ) (r counts : List ℕ) → EndsRun t a r counts events
               → Follows t a list q from end last (getD counts q 0) → LowerStopped t a q below counts events waiting
-              → Lowest t a q r counts ((ahead (getD list at 0) + 1) % 65536)
+              → LowestStretch t a q r counts ((ahead (getD list at 0) + 1) % 65536)
           lowest t a r counts e go y =
               let m = rw same at (x .moved t a r counts e go) in
               let s = go .each at (x .from-on) h in

@@ -26,7 +26,7 @@ use Rattle.index.proofs.Operations.{at-count}
 use Rattle.states.specs.States.{EndsRun, nextOf, Free, Blocked, Posted}
 use Rattle.states.proofs.Moves.{next-lowest}
 use Rattle.states.proofs.Runs.{ends-counted, ends-addable, ends-more}
-use Rattle.walk.specs.Going.{stretch, Lowest}
+use Rattle.walk.specs.Going.{stretch, LowestStretch}
 
 -- ---- the stretch
 
@@ -93,7 +93,7 @@ module _ (t : Trace) (a q : ℕ) (low : q < 16) (r counts : List ℕ) where
       → EndsRun t a (r ++ stretch t q (getD counts q 0) (getD counts q 0)) (set counts q (getD counts q 0)) events
   gone-none x = rw (stretch-none t q (getD counts q 0), append-nil, set-getD counts q 0) x
 
-  pub lowest-none : Lowest t a q r counts (getD counts q 0)
+  pub lowest-none : LowestStretch t a q r counts (getD counts q 0)
   lowest-none = rw (stretch-none t q (getD counts q 0)) no-step
 
   -- ---- one operation more
@@ -117,8 +117,8 @@ module _ (t : Trace) (a q : ℕ) (low : q < 16) (r counts : List ℕ) where
 
     -- ---- as the lowest-numbered worker's
 
-    pub lowest-more : ((p : ℕ) → p < q → Blocked t a events (nextOf t counts p)) → Lowest t a q r counts m
-        → Lowest t a q r counts (m + 1)
+    pub lowest-more : ((p : ℕ) → p < q → Blocked t a events (nextOf t counts p)) → LowestStretch t a q r counts m
+        → LowestStretch t a q r counts (m + 1)
     lowest-more blocked steps =
         rw (stretch-more t q on below) (lowest-append steps
         (rw (done-append [] r (stretch t q (getD counts q 0) m)) at one))
@@ -154,14 +154,14 @@ module _ (t : Trace) (a q : ℕ) (low : q < 16) (r counts : List ℕ) where
 
     pub lowest-plain : {m j : ℕ} → getD counts q 0 ≤ m → Between t a q m j
         → EndsRun t a (r ++ stretch t q (getD counts q 0) m) (set counts q m) events
-        → ((p : ℕ) → p < q → Blocked t a events (nextOf t counts p)) → Lowest t a q r counts m → Lowest t a q r counts j
+        → ((p : ℕ) → p < q → Blocked t a events (nextOf t counts p)) → LowestStretch t a q r counts m → LowestStretch t a q r counts j
     lowest-plain {m} {j} on b x blocked s =
         let e : m + (j - m) ≡ j = omega (arith, b .on) in
         rw e at (many (j - m) m on (λ n h l. b .each n h (omega arith)) x s)
       where
         many : (k m : ℕ) → getD counts q 0 ≤ m → ((n : ℕ) → m ≤ n → n < m + k → Plain t a (operationAt t q n))
             → EndsRun t a (r ++ stretch t q (getD counts q 0) m) (set counts q m) events
-            → Lowest t a q r counts m → Lowest t a q r counts (m + k)
+            → LowestStretch t a q r counts m → LowestStretch t a q r counts (m + k)
         many zero m on p x s = let e : m + 0 ≡ m = omega arith in rw e s
         many (suc k) m on p x s =
             let o = p m (omega arith) (omega arith) in

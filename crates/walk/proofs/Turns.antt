@@ -22,7 +22,7 @@ use Rattle.index.specs.Steps.{Follows}
 use Rattle.states.specs.States.{Exhausted, Blocked, nextOf}
 use Rattle.states.proofs.Moves.{blocked-closed}
 use Rattle.states.proofs.Runs.{ends-counted, ends-exhausted}
-use Rattle.walk.specs.Going.{Stopped, Awake, Going, stretch, Moved, Lowest, Went, Sized, sum, left}
+use Rattle.walk.specs.Going.{Stopped, Awake, Going, stretch, Moved, LowestStretch, Went, Sized, sum, left}
 use Rattle.walk.specs.Going.{Turned, Walked}
 use Rattle.walk.proofs.Releasing.{still, stopped-blocked}
 
@@ -149,7 +149,7 @@ module _ {list ends nexts counts events waiting events′ waiting′ : List ℕ}
             let known = x .awake q (inl (first .here)) .0 in
             elim (x .stands p (omega (arith, l, known))) [ inl i ↦ absurd (first .first p l i) | inr i ↦ i ]
 
-        turned-lowest : ((p : ℕ) → p < q → p isIn below) → Lowest t a q r counts (getD (set counts q c) q 0)
+        turned-lowest : ((p : ℕ) → p < q → p isIn below) → LowestStretch t a q r counts (getD (set counts q c) q 0)
         turned-lowest before =
             rw count-own
             (g .along .lowest t a r counts (x .run) own (record { first = before; stopped = lower }))

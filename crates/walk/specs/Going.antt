@@ -79,8 +79,8 @@ pub record LowerStopped (t : Trace) (a q below : ℕ) (counts events waiting : L
   pub stopped : (p : ℕ) → p < q → Stopped t a events waiting p (nextOf t counts p)
 
 -- what was added is the lowest-numbered worker's at each step
-abbrev pub Lowest : Trace → ℕ → ℕ → List ℕ → List ℕ → ℕ → Type 0
-Lowest t a q r counts c =
+abbrev pub LowestStretch : Trace → ℕ → ℕ → List ℕ → List ℕ → ℕ → Type 0
+LowestStretch t a q r counts c =
     LowestSteps (workerOf t) (without (rule t) a) (done [] r) (stretch t q (getD counts q 0) c)
 
 -- worker q's way from entry `from` to entry `at`, with c operations done: so in whatever trace its list is right. It
@@ -95,7 +95,7 @@ pub record Along (list : List ℕ) (q below from end last : ℕ) (events waiting
       → Follows t a list q from end last (getD counts q 0) → Moved t a list q end last r counts events′ at c
   pub lowest : (t : Trace) (a : ℕ) (r counts : List ℕ) → EndsRun t a r counts events
       → Follows t a list q from end last (getD counts q 0) → LowerStopped t a q below counts events waiting
-      → Lowest t a q r counts c
+      → LowestStretch t a q r counts c
 
 -- and it stops there, or is itself among those freed
 pub record Went (list : List ℕ) (q below from end last : ℕ) (events waiting events′ waiting′ : List ℕ) (at c freed : ℕ)
@@ -134,7 +134,7 @@ pub record Turned (list ends lasts : List ℕ) (orderly : Bool) (q : ℕ) (nexts
       waiting′ ready′ × (getD counts q 0 ≤ getD counts′ q 0)
   pub lowest : orderly ≡ true → (t : Trace) (a out : ℕ) (r : List ℕ)
       → Going t a out r list ends lasts nexts counts events waiting ready
-      → Lowest t a q r counts (getD counts′ q 0)
+      → LowestStretch t a q r counts (getD counts′ q 0)
 
 -- turns until nobody is ready
 pub record Walked (list ends lasts nexts counts events waiting : List ℕ) (ready : ℕ)
