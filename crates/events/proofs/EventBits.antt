@@ -1,13 +1,13 @@
 -- The set of posted events. In order: the code's shift and mask; an event is posted exactly if its bit is 1; after a
 -- post; at the start.
-use mathlib.Core.Bool.{true, false, not, _||_}
+use mathlib.Core.Bool.{true, false, not, _&&_, _||_}
 use mathlib.Core.List.{List}
 use mathlib.Core.Logic.{_⊎_, inl, inr, _≢_}
 use mathlib.Core.Path.{_≡_, refl, sym, _∙_}
 use native.Mathlib.Nat.{mod-eq-of-lt, one-mul, div-eq-of-lt, zero-mul, max-zero}
 use native.Mathlib.Omega.{arith}
 use Prim.Native.Nat.{ℕ, zero, suc, _*_, _/_, _%_, _^_, _<_, max}
-use lib.Bits.{bitAnd, bitOr, or-add-and}
+use lib.Bits.{bitAnd, bitOr, or-add-and, and-zero-r}
 use lib.Dec.{eqb}
 use lib.ListN.{length, getD, set, replicate, length-set}
 use lib.Pow.{pow-lt, pow-pos}
@@ -23,19 +23,14 @@ use Rattle.events.specs.Events.{isPosted, withPost}
 one-bit : (k : ℕ) → k < 64 → (1 * 2 ^ k) % 18446744073709551616 ≡ 2 ^ k
 one-bit k h = rw one-mul (mod-eq-of-lt (pow-lt h))
 
-module _ (events : List ℕ) (e : ℕ) where
+module _ (e : ℕ) where
   mask : (1 * 2 ^ (e % 64)) % 18446744073709551616 ≡ 2 ^ (e % 64)
   mask = one-bit (e % 64) (omega arith)
 
-  pub shift-test : not (eqb (bitAnd (getD events (e / 64) 0) ((1 * 2 ^ (e % 64)) % 18446744073709551616)) 0)
-      ≡ isPosted events e
-  unfolding isPosted
-  shift-test = rw mask
-
-  pub shift-set : set events (e / 64) (bitOr (getD events (e / 64) 0) ((1 * 2 ^ (e % 64)) % 18446744073709551616))
+  pub shift-set : (events : List ℕ) → set events (e / 64) (bitOr (getD events (e / 64) 0) ((1 * 2 ^ (e % 64)) % 18446744073709551616))
       ≡ withPost events e
   unfolding withPost
-  shift-set = rw mask
+  shift-set events = rw mask
 
 -- ---- an event's bit
 
@@ -50,6 +45,20 @@ posted-bit events e = rw mask-bit (go (eventBit events e) (omega arith))
     go zero h = rw zero-mul
     go (suc zero) h = simp (ne-eqb (1 * 2 ^ (e % 64)) 0 (λ z. omega (arith, pow-pos (e % 64))))
     go (suc (suc t)) h = absurd (omega arith)
+
+-- the test by a mask: e's bit, or 0 where e is not needed
+pub shift-missing : (events : List ℕ) (e need : ℕ) → need < 2 → {m : ℕ}
+    → m ≡ (need * 2 ^ (e % 64)) % 18446744073709551616
+    → not (eqb (bitAnd (getD events (e / 64) 0) m) m) ≡ (eqb need 1 && not (isPosted events e))
+shift-missing events e zero h i = rw (i, zero-mul, and-zero-r (getD events (e / 64) 0))
+shift-missing events e (suc zero) h i =
+    rw (i, mask e, mask-bit, posted-bit events e) (go (eventBit events e) (omega arith))
+  where
+    go : (t : ℕ) → t < 2 → not (eqb (t * 2 ^ (e % 64)) (2 ^ (e % 64))) ≡ not (eqb t 1)
+    go zero h = rw (zero-mul, ne-eqb 0 (2 ^ (e % 64)) (λ z. omega (arith, z, pow-pos (e % 64))))
+    go (suc zero) h = rw (one-mul, eq-eqb (2 ^ (e % 64)) (2 ^ (e % 64)) refl)
+    go (suc (suc t)) h = absurd (omega arith)
+shift-missing events e (suc (suc n)) h i = absurd (omega arith)
 
 -- ---- after a post
 

@@ -26,8 +26,7 @@ struct Stop {
 fn is_held(x: u32, events: &[u64; 4]) -> bool
     ensures { λ r. ⌜ r ≡ (holds x && not (isPosted (now (events .entry)) (event x))) ⌝ }
 {
-    let posted = events::is_posted(events, index::event_of(x));
-    basics::both(index::needs_event(x), !posted)
+    events::is_missing(events, index::event_of(x), index::need_of(x))
 }
 
 // Posts event e. Answers who waited for it; nobody does then.

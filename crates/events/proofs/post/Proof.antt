@@ -26,7 +26,7 @@ element-write-events : tie.Need-element-write-events
 element-write-events c = search needs
 
 returns : tie.Need-returns
-returns c = shift-set _ (c .before .args .e)
+returns c = shift-set (c .before .args .e) _
 
 pub post-spec : {M : Type 1} → statement M
 post-spec =
