@@ -12,7 +12,8 @@ pub enum Prefix {
     OfSecond { length: usize },
 }
 
-// Is none of the eight numbers from `at` on x or y? All eight are compared, without a branch.
+// True only where none of the eight numbers from `at` on is x or y. Their low 16 bits are compared, without a branch; a
+// false answer says nothing.
 fn eight_free(list: &[u16], at: usize, x: u32, y: u32) -> bool
     requires { ⌜ Searched (now list) x y at × (at + 8 ≤ length (now list)) ⌝ }
     ensures { λ r. ⌜ (r ≡ true → Searched (now (list .entry)) x y (at + 8)) ⌝ }

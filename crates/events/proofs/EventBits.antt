@@ -27,7 +27,8 @@ module _ (e : ℕ) where
   mask : (1 * 2 ^ (e % 64)) % 18446744073709551616 ≡ 2 ^ (e % 64)
   mask = one-bit (e % 64) (omega arith)
 
-  pub shift-set : (events : List ℕ) → set events (e / 64) (bitOr (getD events (e / 64) 0) ((1 * 2 ^ (e % 64)) % 18446744073709551616))
+  pub shift-set : (events : List ℕ)
+      → set events (e / 64) (bitOr (getD events (e / 64) 0) ((1 * 2 ^ (e % 64)) % 18446744073709551616))
       ≡ withPost events e
   unfolding withPost
   shift-set events = rw mask

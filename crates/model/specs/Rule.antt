@@ -30,7 +30,7 @@ needs t e x = anyOf (λ n. eqb n e) (needed t x)
 abbrev pub unblocked : Trace → List ℕ → ℕ → Bool
 unblocked t d x = allOf (λ e. posted t e d) (needed t x)
 
--- x may be next: its worker's earlier operations are done, and a Wait has a Post of its event done
+-- x may be next: its worker's earlier operations are done, and each event that it needs is posted
 abbrev pub rule : Trace → Rule
 rule t = record { size = size t; may = λ d x. turn (workerOf t) d x && unblocked t d x }
 

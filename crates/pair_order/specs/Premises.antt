@@ -25,6 +25,6 @@ pub record Pair (n a b : ℕ) : Type 0 where
   pub second-below : b < n
   pub differ : a ≢ b
 
--- they are not
+-- a and b are no such pair
 abbrev pub NoPair : ℕ → ℕ → ℕ → Type 0
 NoPair n a b = (n ≤ a) ⊎ (n ≤ b) ⊎ (a ≡ b)

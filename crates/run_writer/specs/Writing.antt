@@ -38,8 +38,8 @@ pub record Writing (order starts list ends lasts nexts counts events waiting : L
   pub base : List ℕ
   pub written : Written trace out base list ends lasts nexts counts events waiting ready at run
 
--- for some trace of p workers and at most 1,024 operations, whose index this is: worker q's operation with `prior` earlier ones is
--- left out first
+-- for some trace of p workers and at most 1,024 operations, whose index this is: worker q's operation with `prior`
+-- earlier ones is left out first
 pub record Runnable (p : ℕ) (order starts list ends : List ℕ) (q prior : ℕ) : Type 0 where
   pub trace : Trace
   pub count : ℕ

@@ -7,8 +7,9 @@
 use mathlib.Core.Path.{_≡_}
 use mathlib.Core.Bool.{Bool, not, _||_, cond}
 use mathlib.Core.List.{List, [], _∷_, _++_}
-use Prim.Native.Nat.{ℕ, zero, suc, _<_, _≤_}
+use Prim.Native.Nat.{ℕ, zero, suc, _+_, _<_, _≤_}
 use lib.Dec.{T, eqb}
+use lib.ListN.{length}
 use Rattle.basics.specs.Membership.{_∈_, upTo, countIf, mem, allOf}
 use Rattle.runs.specs.Rule.{Rule, without}
 use Rattle.runs.specs.Steps.{Addable, Closed, done}
@@ -35,6 +36,10 @@ module _ (worker : ℕ → ℕ) where
   abbrev pub canonical : ℕ → ℕ → List ℕ
   canonical n zero = []
   canonical n (suc p) = canonical n p ++ operationsOf p n
+
+  -- x's place there: behind the operations of lower-numbered workers, and its worker's earlier ones
+  abbrev pub place : ℕ → ℕ → ℕ
+  place n x = length (canonical n (worker x)) + earlier x
 
   -- x comes before y: of a lower-numbered worker, or earlier of the same
   pub data Ahead (x y : ℕ) : Type 0 where
@@ -67,7 +72,7 @@ pub data LowestFirst (worker : ℕ → ℕ) (R : Rule) : List ℕ → List ℕ �
   moves : {d s : List ℕ} {x : ℕ} → LowestAddable worker R d x → LowestFirst worker R (x ∷ d) s
       → LowestFirst worker R d (x ∷ s)
 
--- the same, not yet until none can
+-- the same, but it may end while some can still move
 pub data LowestSteps (worker : ℕ → ℕ) (R : Rule) : List ℕ → List ℕ → Type 0 where
   no-step : {d : List ℕ} → LowestSteps worker R d []
   one-step : {d s : List ℕ} {x : ℕ} → LowestAddable worker R d x → LowestSteps worker R (x ∷ d) s

@@ -65,7 +65,7 @@ pub record RowsOf (t : Trace) (q i j : ℕ) (counts : List ℕ) : Type 0 where
   pub inside : (m : ℕ) → i ≤ m → m < j → operationAt t q m < size t
   pub each : (m : ℕ) → i ≤ m → m < j → take (t .workers) (set counts q m) ≡ row t (operationAt t q m)
 
--- where they are, these rows are filled too
+-- where the counts give these rows (`RowsOf`), they are filled too
 pub record RowsAlong (order starts : List ℕ) (p q i j : ℕ) (counts before now : List ℕ) : Type 0 where
   pub same-length : length now ≡ length before
   pub rows : (t : Trace) (n : ℕ) → Places t n order starts → t .workers ≡ p → q < p → RowsOf t q i j counts

@@ -47,7 +47,7 @@ pub record OwnPassed (t : Trace) (list ends lasts nexts counts : List ℕ) (q i 
   pub going : operationAt t q to < size t → (r : List ℕ)
       × Going t (operationAt t q to) q r list ends lasts nexts (set counts q to) events waiting freed
 
--- so in whatever trace
+-- `OwnPassed`, in whatever trace
 pub record PassesOwn (list : List ℕ) (q own end last : ℕ) (events waiting events′ waiting′ : List ℕ) (at to freed : ℕ)
     : Type 0 where
   pub inside : at ≤ end
@@ -57,7 +57,7 @@ pub record PassesOwn (list : List ℕ) (q own end last : ℕ) (events waiting ev
       → Own t list ends lasts nexts counts q own i events waiting
       → OwnPassed t list ends lasts nexts counts q i at to events′ waiting′ freed
 
--- on the way
+-- `OwnTo`, in whatever trace
 pub record PassingOwn (list : List ℕ) (q own end last : ℕ) (events waiting events′ waiting′ : List ℕ)
     (at : ℕ) : Type 0 where
   pub inside : at ≤ end

@@ -1,12 +1,9 @@
 // Writing the rows of the order table of an accepted file.
 ghost use mathlib.Core.Path.{_≡_};
-ghost use Prim.Native.Nat.{ℕ, _*_, _<_, _≤_};
+ghost use Prim.Native.Nat.{ℕ, _<_, _≤_};
 ghost use lib.ListN.{length, set, take};
-ghost use Rattle.trace.specs.Premises.{HoldsTrace};
 ghost use Rattle.trace.specs.Reading.{traceOf};
-ghost use Rattle.index.specs.Steps.{Handed};
 ghost use Rattle.walk.specs.Going.{Sized, Walked};
-ghost use Rattle.accept.specs.Acceptance.{AcceptedTrace};
 ghost use Rattle.lent.specs.Written.{writtenOver};
 ghost use Rattle.table_rows.specs.Filling.{RoomAt, RoomAlong, Fillable, rowPut, RowsAlong, FillsPart};
 ghost use Rattle.table_rows.specs.Passing.{PassesOwn};
@@ -179,10 +176,7 @@ pub fn fill(
     ends: &[u16; 16],
     table: &mut [u16],
 )
-    requires { ⌜ AcceptedTrace (now file) (traceOf (now file))
-        × HoldsTrace (now file) p n
-        × Handed (traceOf (now file)) (now order) (now starts) (now list) (now ends)
-        × (n * p ≤ length (now table)) ⌝ }
+    requires { ⌜ Fillable (now file) p n (now order) (now starts) (now list) (now ends) (now table) ⌝ }
     ensures { λ r. ⌜ now (table .exit) ≡ writtenOver (orderTable (traceOf (now (file .entry)))) (now (table .entry)) ⌝ }
 {
     let mut q: usize = 0;

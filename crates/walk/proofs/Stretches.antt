@@ -72,7 +72,7 @@ step-posted {t} {x} {k} s events long free = record { words = withPost-length ev
     each : (e : ℕ) → isPosted (withPost events (event x)) e ≡ (posts t e k || isPosted events e)
     each e =
         posted-after events (event x) e long (omega arith)
-        ∙ rw (← s .left e) (go (posts t e k) (needs t e k) refl)
+        ∙ rw (← s .gives e) (go (posts t e k) (needs t e k) refl)
       where
         go : (p n : Bool) → needs t e k ≡ n → ((p || n) || isPosted events e) ≡ (p || isPosted events e)
         go true n i = refl
@@ -154,7 +154,8 @@ module _ (t : Trace) (a q : ℕ) (low : q < 16) (r counts : List ℕ) where
 
     pub lowest-plain : {m j : ℕ} → getD counts q 0 ≤ m → Between t a q m j
         → EndsRun t a (r ++ stretch t q (getD counts q 0) m) (set counts q m) events
-        → ((p : ℕ) → p < q → Blocked t a events (nextOf t counts p)) → LowestStretch t a q r counts m → LowestStretch t a q r counts j
+        → ((p : ℕ) → p < q → Blocked t a events (nextOf t counts p)) → LowestStretch t a q r counts m
+        → LowestStretch t a q r counts j
     lowest-plain {m} {j} on b x blocked s =
         let e : m + (j - m) ≡ j = omega (arith, b .on) in
         rw e at (many (j - m) m on (λ n h l. b .each n h (omega arith)) x s)

@@ -149,12 +149,12 @@ module _ {list ends nexts counts events waiting events′ waiting′ : List ℕ}
             let known = x .awake q (inl (first .here)) .0 in
             elim (x .stands p (omega (arith, l, known))) [ inl i ↦ absurd (first .first p l i) | inr i ↦ i ]
 
-        turned-lowest : ((p : ℕ) → p < q → p isIn below) → LowestStretch t a q r counts (getD (set counts q c) q 0)
+        turned-lowest : masks.Below q below → LowestStretch t a q r counts (getD (set counts q c) q 0)
         turned-lowest before =
             rw count-own
-            (g .along .lowest t a r counts (x .run) own (record { first = before; stopped = lower }))
+            (g .along .lowest t a r counts (x .run) own (record { first = before .all; stopped = lower }))
 
-    pub turned : {orderly : Bool} → (orderly ≡ true → (p : ℕ) → p < q → p isIn below) → bitOr rest freed < 65536
+    pub turned : {orderly : Bool} → (orderly ≡ true → masks.Below q below) → bitOr rest freed < 65536
         → Turned list ends lasts orderly q nexts counts events waiting ready (set nexts q at) (set counts q c) events′
         waiting′ (bitOr rest freed)
     turned before few =

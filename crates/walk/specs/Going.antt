@@ -22,8 +22,8 @@ use Rattle.states.specs.States.{EndsRun, nextOf}
 
 -- ---- the state
 
--- why worker q, at operation k, does not go on: it waits among those who wait for an event, or there is nothing to wait
--- for
+-- why worker q, at operation k, does not go on: it is at its end, or at the operation left out, or stands among those who
+-- wait for an event that it needs and that is not posted
 pub data Stopped (t : Trace) (a : ℕ) (events waiting : List ℕ) (q k : ℕ) : Type 0 where
   at-end : k ≡ size t → Stopped t a events waiting q k
   at-left-out : k ≡ a → Stopped t a events waiting q k
@@ -136,7 +136,7 @@ pub record Turned (list ends lasts : List ℕ) (orderly : Bool) (q : ℕ) (nexts
       → Going t a out r list ends lasts nexts counts events waiting ready
       → LowestStretch t a q r counts (getD counts′ q 0)
 
--- turns until nobody is ready
+-- turns, one behind the other; where nobody is ready at the end, the walk is exhausted (`going-exhausted`)
 pub record Walked (list ends lasts nexts counts events waiting : List ℕ) (ready : ℕ)
     (nexts′ counts′ events′ waiting′ : List ℕ) (ready′ : ℕ) : Type 0 where
   pub sized : Sized ends nexts′ counts′ events′ waiting′

@@ -1,11 +1,11 @@
 // Walks by a set of ready workers, along each worker's list of Posts and Waits. For the crates above, which have read
 // the file and filled its index before.
-ghost use mathlib.Core.Bool.{true, not, _&&_};
+ghost use mathlib.Core.Bool.{true, false, not, _&&_};
 ghost use mathlib.Core.Path.{_≡_};
 ghost use Prim.Native.Nat.{ℕ, _+_, _%_, _<_, _≤_};
 ghost use lib.ListN.{length, getD, set};
 ghost use Rattle.events.specs.Events.{isPosted, withPost};
-ghost use Rattle.masks.specs.Masks.{_isIn_, Lowest};
+ghost use Rattle.masks.specs.Masks.{Below, Lowest};
 ghost use Rattle.index.specs.Steps.{ahead, holds, event};
 ghost use Rattle.walk.specs.Going.{Entered, Went, Sized, Turned, Walked};
 
@@ -15,7 +15,8 @@ pub struct Walk {
     pub events: [u64; 4],
 }
 
-// Where a worker stopped in its list, how many operations it has done, and which workers it has freed.
+// Where a worker stopped in its list, how many operations it has done, and who is ready by it: those that it has freed,
+// and itself where it lets a lower one go first.
 struct Stop {
     at: usize,
     count: u16,
@@ -113,7 +114,7 @@ fn go_on(
 // The workers that go before worker q: where they are to go in order, those below it.
 fn goes_before(orderly: bool, q: u32) -> u16
     requires { ⌜ q < 16 ⌝ }
-    ensures { λ r. ⌜ (orderly ≡ true → (p : ℕ) → p < q → p isIn r) ⌝ }
+    ensures { λ r. ⌜ ((orderly ≡ true) → Below q r) × ((orderly ≡ false) → r ≡ 0) ⌝ }
 {
     if orderly {
         return masks::below(q);

@@ -18,17 +18,22 @@ abbrev μ-loop : tie.MeasureT-loop
 
 loop-holds : tie.Need-loop-holds Inv-loop μ-loop
 loop-holds c =
-    let (accepted, holds, handed, room) = c .before .before .pre in
-    (omega arith, workers-start holds (handed .indexed) _)
+    let x = c .before .before .pre in
+    (omega arith, workers-start (x .holds) (x .handed .indexed) _)
 
 fill-worker-requires : tie.Need-fill-worker-requires Inv-loop μ-loop
 fill-worker-requires c κs =
     let c1 = c .before in
     let c2 = c1 .before in
     let c5 = c2 .before .before .before in
-    let (accepted, holds, handed, room) = c5 .pre in
+    let x = c5 .pre in
     let long = c2 .loop .inv .1 .same-length in (
-      record { accepted = accepted; holds = holds; handed = handed; room = omega (arith, room, long) },
+      record {
+        accepted = x .accepted;
+        holds = x .holds;
+        handed = x .handed;
+        room = omega (arith, x .room, long);
+      },
       c1 .loop-test .taken,
     )
 
@@ -50,9 +55,9 @@ same-length c = c .before .loop .inv .1 .same-length
 
 returns : tie.Need-returns Inv-loop μ-loop
 returns c =
-    let (accepted, holds, handed, room) = c .before .before .before .before .pre in
+    let x = c .before .before .before .before .pre in
     let (few, rows) = c .before .loop .inv in
-    workers-all holds (handed .indexed) rows (omega (arith, c .loop-test .left, few)) room
+    workers-all (x .holds) (x .handed .indexed) rows (omega (arith, c .loop-test .left, few)) (x .room)
 
 pub fill-spec : {M : Type 1} → statement M
 fill-spec =

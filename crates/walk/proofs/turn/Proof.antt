@@ -71,7 +71,7 @@ returns c =
     let went = rw (c9 .index .ensures .0, c6 .before .index2 .ensures .0) at (c .before .before .go-on .ensures) in
     let rest = c .before .without .ensures in
     let (is, few) = c .joined .ensures in
-    rw is (turned (c9 .before .before .args .lasts .now) s first rest went (c6 .goes-before .ensures) (rw is at few))
+    rw is (turned (c9 .before .before .args .lasts .now) s first rest went (c6 .goes-before .ensures .0) (rw is at few))
 
 pub turn-spec : {M : Type 1} → statement M
 turn-spec =
