@@ -22,8 +22,8 @@ use Rattle.states.specs.States.{EndsRun, nextOf}
 
 -- ---- the state
 
--- why worker q, at operation k, does not go on: it is at its end, or at the operation left out, or stands among those who
--- wait for an event that it needs and that is not posted
+-- why worker q, at operation k, does not go on: it is at its end, or at the operation left out, or stands among those
+-- who wait for an event that it needs and that is not posted
 pub data Stopped (t : Trace) (a : ℕ) (events waiting : List ℕ) (q k : ℕ) : Type 0 where
   at-end : k ≡ size t → Stopped t a events waiting q k
   at-left-out : k ≡ a → Stopped t a events waiting q k
