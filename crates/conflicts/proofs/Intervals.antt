@@ -7,7 +7,7 @@ use Prim.Native.Nat.{ℕ, _+_, _<_, _≤_}
 use lib.Dec.{leb, ltb}
 use borrow.Author.Tests.{leb-true, le-leb, ltb-true, lt-ltb}
 use Rattle.basics.proofs.Booleans.{both-pass, less?}
-use Rattle.race_search.specs.Intervals.{InInterval, Common, overlap}
+use Rattle.conflicts.specs.Intervals.{InInterval, Common, overlap}
 
 pub end-outside : (first count : ℕ) → InInterval first count (first + count) → ⊥
 end-outside first count i = omega (arith, i .below)

@@ -1,0 +1,5 @@
+-- Intervals: intervals of numbers, and when two have one in common. Conflict: two operations in conflict, and the test.
+-- To be believed for the demands: `InInterval`, `Common` (Intervals); `Reads`, `Writes`, `CommonCell`, `InConflict`
+-- (Conflict).
+pub mod Intervals
+pub mod Conflict
