@@ -1,39 +1,23 @@
 -- Races of a trace, and the order in which they are listed.
 -- Follows: document 01, "Race list": "A race is a pair a < b, both Read or Write, at least one a Write, with a common
 -- cell, neither certain before the other."; "ascending by lower, then higher, each once".
--- Differs: nowhere. `Unordered`, neither certain before the other, is in the crate `model`, by report 1084's maximal
--- valid executions. A race record is the struct of src/lib.rt.
+-- Differs: nowhere. `InConflict` is in the crate `conflicts`; `Unordered`, neither certain before the other, is in
+-- `model`, by report 1084's maximal valid executions. A race record is the struct of src/lib.rt.
 use mathlib.Core.List.{List, List·Memᴰ}
-use mathlib.Core.Logic.{_⊎_, _↔_}
+use mathlib.Core.Logic.{_↔_}
 use mathlib.Core.Path.{_≡_}
 use Prim.Native.Nat.{ℕ, _<_}
-use lib.Dec.{T}
 use lib.ListN.{length, getD}
-use Rattle.trace.specs.Trace.{Trace, size, operation, isRead, isWrite}
+use Rattle.trace.specs.Trace.{Trace, size, operation}
 use Rattle.model.specs.Orders.{Unordered}
-use Rattle.race_search.specs.declared.Race.{Race}
-use Rattle.race_search.specs.Intervals.{Common}
+use Rattle.conflicts.specs.Conflict.{InConflict}
+use Rattle.race_model.specs.declared.Race.{Race}
 
--- operation x is a Read, a Write
-abbrev pub Reads : Trace → ℕ → Type 0
-Reads t x = T (isRead (operation t x .kind))
-
-abbrev pub Writes : Trace → ℕ → Type 0
-Writes t x = T (isWrite (operation t x .kind))
-
--- x and y have a common cell: "number = first cell, length = how many cells"
-abbrev pub CommonCell : Trace → ℕ → ℕ → Type 0
-CommonCell t x y =
-    Common (operation t x .number) (operation t x .length) (operation t y .number) (operation t y .length)
-
--- a and b are "a pair a < b, both Read or Write, at least one a Write, with a common cell"
+-- a and b are a pair a < b of operations in conflict: "both Read or Write, at least one a Write, with a common cell"
 pub record Conflict (t : Trace) (a b : ℕ) : Type 0 where
   pub ascending : a < b
   pub operations : b < size t
-  pub first-accesses : Reads t a ⊎ Writes t a
-  pub second-accesses : Reads t b ⊎ Writes t b
-  pub one-writes : Writes t a ⊎ Writes t b
-  pub common-cell : CommonCell t a b
+  pub in-conflict : InConflict (operation t a) (operation t b)
 
 -- they race: "neither certain before the other"
 pub record RaceIn (t : Trace) (a b : ℕ) : Type 0 where

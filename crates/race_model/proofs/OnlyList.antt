@@ -7,10 +7,10 @@ use Prim.Native.Nat.{suc}
 use Rattle.runs.proofs.Places.{in-getD}
 use Rattle.trace.specs.Trace.{Trace}
 use Rattle.model.specs.Rule.{WorkersKnown}
-use Rattle.race_search.specs.declared.Race.{Race}
-use Rattle.race_search.specs.Race.{Ahead, lower-first, then-higher, Ascending, RaceListOf}
-use Rattle.race_search.specs.RaceList.{raceList}
-use Rattle.race_search.proofs.RaceLists.{list-exactly, list-ascending}
+use Rattle.race_model.specs.declared.Race.{Race}
+use Rattle.race_model.specs.Race.{Ahead, lower-first, then-higher, Ascending, RaceListOf}
+use Rattle.race_model.specs.RaceList.{raceList}
+use Rattle.race_model.proofs.RaceLists.{list-exactly, list-ascending}
 
 pub list-of : {t : Trace} → WorkersKnown t → RaceListOf t (raceList t)
 list-of {t} w =

@@ -13,11 +13,11 @@ use Rattle.basics.proofs.Booleans.{equal?, less?}
 use Rattle.runs.proofs.Places.{getD-in, in-getD}
 use Rattle.trace.specs.Trace.{Trace, size}
 use Rattle.model.specs.Rule.{WorkersKnown}
-use Rattle.race_search.specs.declared.Race.{Race}
-use Rattle.race_search.specs.Race.{RaceIn, Ahead, lower-first, then-higher, Ascending}
-use Rattle.race_search.specs.RaceList.{isRace, pair, racesOf, racesBelow, raceList, raceCount, noRace}
-use Rattle.race_search.specs.RaceList.{racesBefore, racesUpTo}
-use Rattle.race_search.proofs.RaceTests.{race-test, race-ascending, race-below, no-race-ahead}
+use Rattle.race_model.specs.declared.Race.{Race}
+use Rattle.race_model.specs.Race.{RaceIn, Ahead, lower-first, then-higher, Ascending}
+use Rattle.race_model.specs.RaceList.{isRace, pair, racesOf, racesBelow, raceList, raceCount, noRace}
+use Rattle.race_model.specs.RaceList.{racesBefore, racesUpTo}
+use Rattle.race_model.proofs.RaceTests.{race-test, race-ascending, race-below, no-race-ahead}
 
 module _ (t : Trace) where
   -- ---- from pair to pair

@@ -2,24 +2,15 @@
 -- Follows: document 01, "Race list".
 -- Differs: nowhere; proofs/OnlyList shows that it holds exactly the races of specs/Race, ascending, and
 -- that no other list does.
-use mathlib.Core.Bool.{Bool, cond, _&&_, _||_}
+use mathlib.Core.Bool.{Bool, cond, _&&_}
 use mathlib.Core.List.{List, [], _∷_, _++_}
 use Prim.Native.Nat.{ℕ, zero, suc}
 use lib.Dec.{ltb}
 use lib.ListN.{length, getD}
-use Rattle.trace.specs.declared.Operation.{Operation}
-use Rattle.trace.specs.Trace.{Trace, size, operation, isWrite, isAccess}
+use Rattle.trace.specs.Trace.{Trace, size, operation}
 use Rattle.model.specs.Computed.{unorderedIn}
-use Rattle.race_search.specs.declared.Race.{Race}
-use Rattle.race_search.specs.Intervals.{overlap}
-
--- "both Read or Write, at least one a Write, with a common cell"
-unfoldable pub inConflict : Operation → Operation → Bool
-inConflict x y =
-    isAccess (x .kind)
-    && (isAccess (y .kind)
-    && ((isWrite (x .kind) || isWrite (y .kind))
-    && overlap (x .number) (x .length) (y .number) (y .length)))
+use Rattle.race_model.specs.declared.Race.{Race}
+use Rattle.conflicts.specs.Conflict.{inConflict}
 
 -- do a and b race?
 unfoldable pub isRace : Trace → ℕ → ℕ → Bool

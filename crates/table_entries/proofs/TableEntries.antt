@@ -2,7 +2,7 @@
 -- operations; an entry lies inside the table, and two entries tell whether an operation must precede another.
 use mathlib.Core.List.{List}
 use mathlib.Core.Path.{_≡_, sym}
-use native.Mathlib.Nat.{suc-mul, mul-le-mul, mul-le-mul-right}
+use native.Mathlib.Nat.{suc-mul, mul-le-mul-right}
 use native.Mathlib.Omega.{arith}
 use Prim.Native.Nat.{ℕ, suc, _+_, _*_, _<_, _≤_}
 use lib.Dec.{leb}
@@ -14,9 +14,7 @@ use Rattle.trace.proofs.Answers.{few-numbers}
 use Rattle.model.specs.Computed.{row, mustPrecedeIn}
 use Rattle.model.proofs.TableRows.{rows-must-precede}
 use Rattle.accept.proofs.Questions.{accepted-reads, accepted-holds, accepted-workers, accepted-run}
-use Rattle.race_search.specs.Premises.{HoldsTable, Inside, PairInTable}
-use Rattle.race_search.specs.RaceList.{raceCount}
-use Rattle.race_search.proofs.RaceLists.{list-few}
+use Rattle.table_entries.specs.Entries.{HoldsTable, Inside, PairInTable}
 
 pub table-reads : {bytes table : List ℕ} → HoldsTable bytes table → fileReading bytes ≡ reads (traceOf bytes)
 table-reads h = accepted-reads (h .accepted)
@@ -29,13 +27,6 @@ table-holds h e i = rw (e, i) (accepted-holds (h .accepted))
 -- there are at most 1,024 operations
 pub table-short : {bytes table : List ℕ} → HoldsTable bytes table → size (traceOf bytes) ≤ 1024
 table-short h = accepted-holds (h .accepted) .few
-
--- there are at most 1,024 × 1,024 races
-pub table-few : {bytes table : List ℕ} → HoldsTable bytes table → raceCount (traceOf bytes) ≤ 1048576
-table-few {bytes} h =
-    let few = accepted-holds (h .accepted) .few in
-    let square = mul-le-mul {n₂ = 1024} {m₂ = 1024} few few in
-    omega (arith, square, list-few (traceOf bytes))
 
 pub pair-at : {bytes table : List ℕ} {p n a b : ℕ} → HoldsTable bytes table → HoldsTrace bytes p n → a < b → b < n
     → PairInTable bytes table p a b

@@ -8,8 +8,9 @@ use Rattle.trace.specs.declared.Operation.{Operation}
 use Rattle.trace.specs.Trace.{Trace, isAccess}
 use Rattle.model.specs.Computed.{largestRunWithout, mustPrecedeIn}
 use Rattle.model.specs.Examples.{post, wait, readCell, writeCell}
-use Rattle.race_search.specs.Intervals.{overlap}
-use Rattle.race_search.specs.RaceList.{inConflict, isRace, pair, racesOf, racesBelow, raceList}
+use Rattle.conflicts.specs.Intervals.{overlap}
+use Rattle.conflicts.specs.Conflict.{inConflict}
+use Rattle.race_model.specs.RaceList.{isRace, pair, racesOf, racesBelow, raceList}
 
 abbrev pub threeWorkers : List Operation → Trace
 threeWorkers l = record { workers = 3; operations = l }

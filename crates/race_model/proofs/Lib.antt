@@ -1,0 +1,5 @@
+-- RaceTests: which pairs race. RaceLists: the list of races. OnlyList: it holds exactly the races, ascending, and no
+-- other list does.
+pub mod RaceTests
+pub mod RaceLists
+pub mod OnlyList
