@@ -1,1 +1,1 @@
-// No code yet: intervals, and operations in conflict, in specs/ and proofs/.
+// none

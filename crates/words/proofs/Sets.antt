@@ -14,7 +14,7 @@ use lib.ListN.{length}
 use lib.Pow.{pow-lt, pow-mono, pow-add, pow-pos, high, low, field, mod-mod-pow, mod-pow-add, shr-shr, shl-shr}
 use borrow.Author.Tests.{eq-eqb, ne-eqb, lt-ltb, le-ltb}
 use mir.Val.{boolByte}
-use Rattle.basics.proofs.Bits.{and-bit, or-bit, xor-bit, bit-same, bit-other, ones-bit}
+use Rattle.basics.proofs.Bits.{and-bit, or-bit, xor-bit, bit-same, bit-other, bit-none, ones-bit}
 use Rattle.basics.proofs.Booleans.{equal?, less?}
 use Rattle.words.specs.Passing.{passing}
 use Rattle.words.specs.Words.{isIn, With, Without, Common, Joined, Above, wordOf}
@@ -219,3 +219,8 @@ module _ (f : ℕ → Bool) where
 
       before : i < n → isIn (wordOf f (suc n)) i ≡ isIn (wordOf f n) i
       before j = sym (cut-in (wordOf f (suc n)) n i j) ∙ ap (λ (x : ℕ). isIn x i) rest
+
+-- ---- the empty set
+
+pub none-in : (i : ℕ) → isIn 0 i ≡ false
+none-in i = is-zero 0 i (bit-none i)

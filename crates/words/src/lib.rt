@@ -64,3 +64,11 @@ pub fn list(x: u32, first: usize, at: usize, row: &mut [u16; 1024]) -> usize
     }
     end
 }
+
+// Is i in the set?
+pub fn holds(x: u32, i: u32) -> bool
+    requires { ⌜ i < 32 ⌝ }
+    ensures { λ r. ⌜ r ≡ isIn x i ⌝ }
+{
+    (x >> i) % 2 == 1
+}

@@ -1,0 +1,2 @@
+-- Meetings: notes of which operations meet which cells; means.
+pub mod Meetings

@@ -1,0 +1,3 @@
+-- Pairs: pairs of operations of two workers; means. Examples: a trace worked out.
+pub mod Pairs
+pub mod Examples
