@@ -5,18 +5,24 @@
 use mathlib.Core.Bool.{Bool, cond, _&&_, _||_}
 use mathlib.Core.List.{List}
 use mathlib.Core.Path.{_≡_}
-use Prim.Native.Nat.{ℕ, _+_, _*_, _-_, _/_, _%_, _<_, _≤_}
+use Prim.Native.Nat.{ℕ, _+_, _*_, _-_, _/_, _%_, _^_, _<_, _≤_, min}
 use lib.Dec.{T, leb}
 use lib.ListN.{length, getD}
 use mir.Val.{boolByte}
 use Rattle.trace.specs.declared.Operation.{Operation}
 use Rattle.trace.specs.Reading.{reads, fileReading, traceOf}
 use Rattle.trace.specs.Trace.{Trace, size, operation, isWrite, isAccess}
-use Rattle.words.specs.Words.{isIn}
+use Rattle.words.specs.Words.{isIn, wordOf}
 
 -- 1 for true, 0 for false
 abbrev pub bit : Bool → ℕ
 bit b = boolByte b
+
+-- x is below 2 ^ j, so that b can be its bit j
+pub record BitFits (x b j : ℕ) : Type 0 where
+  pub few : x < 2 ^ j
+  pub low : b < 2
+  pub inside : j < 32
 
 -- ---- the array
 
@@ -51,6 +57,29 @@ pub record CellsAt (o : Operation) (cells : List ℕ) (k : ℕ) : Type 0 where
 pub record CellsHold (t : Trace) (cells : List ℕ) : Type 0 where
   pub long : length cells ≡ 2080
   pub each : (k : ℕ) → k < size t → CellsAt (operation t k) cells k
+
+-- is operation 32 v + i of t a Write?
+abbrev pub writesFrom : Trace → ℕ → ℕ → Bool
+writesFrom t v i = isWrite (operation t (32 * v + i) .kind)
+
+-- an array in which no operation is marked
+pub record Unmarked (cells : List ℕ) : Type 0 where
+  pub long : length cells ≡ 2080
+  pub marks : (v : ℕ) → v < 32 → getD cells (2048 + v) 0 ≡ 0
+
+-- of the operations below k the cells are read, and those that are Writes are marked, and no others
+pub record CellsRead (t : Trace) (k : ℕ) (cells : List ℕ) : Type 0 where
+  pub long : length cells ≡ 2080
+  pub fit : (j : ℕ) → j < k → CellsFit (operation t j)
+  pub first-cell : (j : ℕ) → j < k → getD cells (place j) 0 ≡ firstCell (operation t j)
+  pub last-cell : (j : ℕ) → j < k → getD cells (1024 + place j) 0 ≡ lastCell (operation t j)
+  pub marks : (v : ℕ) → v < 32 → getD cells (2048 + v) 0 ≡ wordOf (writesFrom t v) (min 32 (k - 32 * v))
+
+-- an operation of a file that reads as a trace, and the cells of those before it
+pub record NextCells (bytes : List ℕ) (k : ℕ) (cells : List ℕ) : Type 0 where
+  pub trace : fileReading bytes ≡ reads (traceOf bytes)
+  pub inside : k < size (traceOf bytes)
+  pub before : CellsRead (traceOf bytes) k cells
 
 -- a file that reads as a trace, and an array
 pub record ReadsCells (bytes cells : List ℕ) : Type 0 where

@@ -1,7 +1,5 @@
--- ArrayReading: reading arrays of cells and entries. RowTests: the tests by them. RowLists: the list, row by row.
--- RowSteps: listing a row. PairCounts: there are no more races than pairs of operations of two workers.
-pub mod ArrayReading
-pub mod RowTests
-pub mod RowLists
-pub mod RowSteps
-pub mod PairCounts
+-- RaceWords: a word of races. RowLoops: a row of races, word by word. RowNotes:
+-- noting what a row needs.
+pub mod RaceWords
+pub mod RowLoops
+pub mod RowNotes

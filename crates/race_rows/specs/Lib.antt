@@ -1,4 +1,2 @@
--- Rows: what the functions know and do, and the row of an operation's races, joined to the list of races by the
--- theorems in proofs/; means. Examples: traces worked out.
+-- Rows: what a row of races is found from, and its words; means.
 pub mod Rows
-pub mod Examples

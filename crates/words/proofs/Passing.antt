@@ -125,3 +125,13 @@ passing-raised f first (suc n) = go (f (first + n)) refl (passing-raised f first
         rw (add-suc, passing-more f (first + n) e, passing-more g n e, map-append, i)
         (append-assoc (passing f first) (raised first (passing g n)) ((first + n) ∷ []))
     go false e i = rw (add-suc, passing-same f (first + n) e, passing-same g n e) i
+
+-- ---- no more than there are numbers
+
+pub passing-few : (f : ℕ → Bool) (n : ℕ) → length (passing f n) ≤ n
+passing-few f zero = omega (arith, passing-zero f)
+passing-few f (suc n) = omega (arith, passing-few f n, passing-count f n, few (f n))
+  where
+    few : (r : Bool) → boolByte r ≤ 1
+    few true = omega arith
+    few false = omega arith

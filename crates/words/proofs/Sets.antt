@@ -224,3 +224,8 @@ module _ (f : ℕ → Bool) where
 
 pub none-in : (i : ℕ) → isIn 0 i ≡ false
 none-in i = is-zero 0 i (bit-none i)
+
+-- ---- the set of all
+
+pub all-in : (i : ℕ) → i < 32 → isIn 4294967295 i ≡ true
+all-in i l = is-one 4294967295 i (ones-bit 32 i l)
