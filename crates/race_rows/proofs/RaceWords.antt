@@ -93,10 +93,11 @@ module _ {t : Trace} {a : ℕ} {cells kept seen : List ℕ} {w slot : ℕ} (h : 
             rw (held-first hold (h .inside), held-last hold (h .inside), hold .each a (h .inside) .write, hold .each b inside .write)
             (held-met hold (h .inside) inside)
 
+        kept-here : held kept w b ≡ true
+        kept-here = rw (h .worker, h .free .each b (omega arith), lt-ltb b (size t) inside, apart later, free)
+
         noted : isNoted seen slot (b / 128) ≡ true
-        noted =
-            h .noted b (omega arith) (omega (arith, h .few))
-            (rw (h .worker) (h .free .each b (omega arith)) ∙ rw (lt-ltb b (size t) inside, apart later, free))
+        noted = h .noted b (omega arith) (omega (arith, h .few)) kept-here
 
         met : isIn (getD seen (32 * slot + v) 0) i
             ≡ metAt cells (getD cells (place a) 0) (getD cells (1024 + place a) 0) (place b)
@@ -120,7 +121,10 @@ module _ {t : Trace} {a : ℕ} {cells kept seen : List ℕ} {w slot : ℕ} (h : 
         tests inside u false e d = and-false _ ∙ sym (and-false _)
         tests inside true true e d =
             rw (apart (ltb-true a b d)) (ap (λ (p : Bool). (p && true) && true) (looked inside e (ltb-true a b d)))
-        tests inside false true e d = rw (and-false (not (eqb a b))) (go _ true ∙ sym (go _ true))
+        tests inside false true e d =
+            rw (and-false (not (eqb a b)))
+            (go (isIn (getD seen (32 * slot + v) 0) i && (marked cells a || marked cells b)) true
+            ∙ sym (go (inConflict (operation t a) (operation t b)) true))
 
   pub race-word : RaceWord t a v r
   race-word = record { each = race-bit }
