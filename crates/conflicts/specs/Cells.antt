@@ -1,7 +1,7 @@
 -- The cells of a trace's operations in an array, and sets of operations that meet a row of cells.
 -- Follows: document 01, "Race list": "both Read or Write, at least one a Write, with a common cell".
 -- Differs: nowhere. Means: no call's contract speaks of these. An operation that is no Read or Write has a first cell
--- above its last one in the array, so that it meets none; proofs/Cells shows that the test by the array is `inConflict`.
+-- above its last one in the array, so that it meets none; proofs/Cells shows that this test is `inConflict`.
 use mathlib.Core.Bool.{Bool, cond, _&&_, _||_}
 use mathlib.Core.List.{List}
 use mathlib.Core.Path.{_≡_}

@@ -32,6 +32,9 @@ forgotten-more {seen} {s} f l = record { long = simp length-set (f .long); none 
           ∙ f .none k (omega (arith, d))
     ]
 
+pub forgotten-all : {seen : List ℕ} {s : ℕ} → Forgotten seen s → 32 ≤ s → Forgotten seen 32
+forgotten-all f l = record { long = f .long; none = λ k h. f .none k (omega arith) }
+
 pub forgotten-notes : {seen : List ℕ} (cells : List ℕ) → Forgotten seen 32 → Notes cells seen
 forgotten-notes {seen} cells f =
     record {

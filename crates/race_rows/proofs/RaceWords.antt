@@ -68,9 +68,13 @@ module _ {t : Trace} {a : ℕ} {cells kept seen : List ℕ} {w slot : ℕ} (h : 
     unfolding held
     kept-is = rw (← h .worker, word-of, bit-of) at (h .free .each b (omega arith))
 
+    -- does its word of meetings hold b, with a Write among the two?
+    abbrev hit : Bool
+    hit = isIn (getD seen (32 * slot + v) 0) i && (marked cells a || marked cells b)
+
     -- what the word holds of b
     whole : isIn r i
-        ≡ ((isIn (getD seen (32 * slot + v) 0) i && (marked cells a || marked cells b))
+        ≡ (hit
         && (ltb b (size t) && (not (eqb a b) && unorderedIn t a b))) && ltb a b
     whole = m .each i ∙ rw (f .each i, c .each i l, kept-is, o .each i l)
 
@@ -79,7 +83,7 @@ module _ {t : Trace} {a : ℕ} {cells kept seen : List ℕ} {w slot : ℕ} (h : 
 
     -- b is an operation, unordered with a, and stands after it: its cells are looked at
     looked : b < size t → unorderedIn t a b ≡ true → a < b
-        → (isIn (getD seen (32 * slot + v) 0) i && (marked cells a || marked cells b))
+        → hit
         ≡ inConflict (operation t a) (operation t b)
     looked inside free later = rw met by-cells
       where
@@ -107,7 +111,7 @@ module _ {t : Trace} {a : ℕ} {cells kept seen : List ℕ} {w slot : ℕ} (h : 
 
     race-bit : isIn r i ≡ isRace t a b
     race-bit = whole ∙ elim (less? b (size t)) [
-      | inr out ↦ rw (le-ltb b (size t) out, no-race-outside t a b out) (go _ (ltb a b))
+      | inr out ↦ rw (le-ltb b (size t) out, no-race-outside t a b out) (go hit (ltb a b))
       | inl inside ↦ rw (lt-ltb b (size t) inside, race-asked t a b inside) (tests inside (unorderedIn t a b) (ltb a b) refl refl)
     ]
       where
@@ -116,15 +120,14 @@ module _ {t : Trace} {a : ℕ} {cells kept seen : List ℕ} {w slot : ℕ} (h : 
         go false q = refl
 
         tests : b < size t → (u s : Bool) → unorderedIn t a b ≡ u → ltb a b ≡ s
-            → (((isIn (getD seen (32 * slot + v) 0) i && (marked cells a || marked cells b)) && (not (eqb a b) && u)) && s)
+            → ((hit && (not (eqb a b) && u)) && s)
             ≡ ((inConflict (operation t a) (operation t b) && u) && s)
-        tests inside u false e d = and-false _ ∙ sym (and-false _)
+        tests inside u false e d = sym (and-false (inConflict (operation t a) (operation t b) && u) ∙ sym (and-false (hit && (not (eqb a b) && u))))
         tests inside true true e d =
             rw (apart (ltb-true a b d)) (ap (λ (p : Bool). (p && true) && true) (looked inside e (ltb-true a b d)))
         tests inside false true e d =
             rw (and-false (not (eqb a b)))
-            (go (isIn (getD seen (32 * slot + v) 0) i && (marked cells a || marked cells b)) true
-            ∙ sym (go (inConflict (operation t a) (operation t b)) true))
+            (go hit true ∙ sym (go (inConflict (operation t a) (operation t b)) true))
 
   pub race-word : RaceWord t a v r
   race-word = record { each = race-bit }

@@ -1,0 +1,50 @@
+-- `add_met` meets its contract. Assumes nothing.
+use borrow.Author.Needs.{needs}
+use Rattle.conflicts.specs.Cells.{metAt}
+use Rattle.conflicts.proofs.MetWords.{bit-few}
+use Rattle.conflicts.proofs.add_met.Statement.{statement}
+use Rattle.conflicts.proofs.add_met.Tie as tie
+
+mul-meets : tie.Need-mul-meets
+mul-meets c = search needs
+
+element-copy-out-meets : tie.Need-element-copy-out-meets
+element-copy-out-meets c = search needs
+
+add-meets : tie.Need-add-meets
+add-meets c = search needs
+
+mul-meets-2 : tie.Need-mul-meets-2
+mul-meets-2 c = search needs
+
+element-copy-out-meets-2 : tie.Need-element-copy-out-meets-2
+element-copy-out-meets-2 c = search needs
+
+meets-requires : tie.Need-meets-requires
+meets-requires c κs = search needs
+
+add-bit-requires : tie.Need-add-bit-requires
+add-bit-requires c κs =
+    let c3 = c .before .before .before in
+    let a = c3 .args in
+    record {
+      few = c3 .pre .1;
+      low = rw (c .meets .ensures) (bit-few (metAt (a .cells .now) (a .first) (a .last) (a .at)));
+      inside = c3 .pre .2;
+    }
+
+returns : tie.Need-returns
+returns c = rw (c .add-bit .ensures, c .before .meets .ensures)
+
+pub add-met-spec : {M : Type 1} → statement M
+add-met-spec =
+    tie.close
+    (tie.spec
+    mul-meets
+    element-copy-out-meets
+    add-meets
+    mul-meets-2
+    element-copy-out-meets-2
+    meets-requires
+    add-bit-requires
+    returns)
