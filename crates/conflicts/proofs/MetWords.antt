@@ -1,19 +1,19 @@
 -- Words made of tests. In order: one more bit; the four words of a block; the operations in conflict with one.
 use mathlib.Core.Bool.{Bool, true, false, cond, _&&_, _||_}
 use mathlib.Core.List.{List}
-use mathlib.Core.Logic.{_⊎_, inl, inr, _≢_}
-use mathlib.Core.Path.{_≡_, refl, sym, ap, _∙_}
+use mathlib.Core.Logic.{_≢_}
+use mathlib.Core.Path.{_≡_, refl}
 use native.Mathlib.Nat.{add-zero, mod-eq-of-lt, pow-suc}
 use native.Mathlib.Numerals.{add-one}
 use native.Mathlib.Omega.{arith}
 use Prim.Native.Nat.{ℕ, zero, suc, _+_, _*_, _/_, _%_, _^_, _<_, _≤_}
 use lib.ListN.{length, getD, set, length-set}
-use lib.Pow.{pow-mono, pow-pos}
+use lib.Pow.{pow-mono}
 use lib.Seq.{getD-set-same, getD-set-other}
 use Rattle.basics.proofs.Bits.{bit-none, ones-bit}
 use Rattle.words.specs.Words.{isIn, Common, Joined, wordOf}
 use Rattle.words.proofs.Sets.{in-bit, word-few, word-in}
-use Rattle.conflicts.specs.Cells.{bit, BitFits, place, marked, metAt, BlockAt, BlockMet, ConflictsIn}
+use Rattle.conflicts.specs.Cells.{bit, BitFits, marked, metAt, BlockAt, BlockMet, ConflictsIn}
 use Rattle.conflicts.proofs.Cells.{place-block}
 
 -- ---- one more bit

@@ -1,8 +1,8 @@
 -- The loops that fill the array of cells. In order: taking the marks away; the cells of one more operation; the end.
-use mathlib.Core.Bool.{Bool, true}
+use mathlib.Core.Bool.{Bool}
 use mathlib.Core.List.{List}
 use mathlib.Core.Logic.{inl, inr, _≢_}
-use mathlib.Core.Path.{_≡_, refl, sym, ap, _∙_}
+use mathlib.Core.Path.{_≡_, _∙_}
 use native.Mathlib.Omega.{arith}
 use Prim.Native.Nat.{ℕ, _+_, _*_, _-_, _/_, _%_, _^_, _<_, _≤_, min}
 use lib.ListN.{length, getD, set, length-set}
@@ -10,7 +10,7 @@ use lib.Seq.{getD-set-same, getD-set-other}
 use Rattle.basics.proofs.Booleans.{equal?}
 use Rattle.trace.specs.declared.Operation.{Operation}
 use Rattle.trace.specs.Trace.{Trace, size, operation, isWrite}
-use Rattle.words.specs.Words.{isIn, wordOf}
+use Rattle.words.specs.Words.{wordOf}
 use Rattle.words.proofs.Sets.{word-few, word-in}
 use Rattle.conflicts.specs.Cells.{bit, BitFits, firstCell, lastCell, CellsFit, place, marked, CellsAt, CellsHold}
 use Rattle.conflicts.specs.Cells.{writesFrom, Unmarked, CellsRead, NextCells}
@@ -66,11 +66,11 @@ module _ {t : Trace} {k : ℕ} {cells : List ℕ} (r : CellsRead t k cells) (l :
       let e : min 32 (k - 32 * (k / 32)) ≡ k % 32 = omega arith in
       rw e at (r .marks (k / 32) (omega arith))
 
-  pub mark-fits : (b : Bool) → BitFits (getD cells (2048 + k / 32) 0) (bit b) (k % 32)
-  mark-fits b =
+  pub mark-fits : {x : ℕ} (b : Bool) → x ≡ bit b → BitFits (getD cells (2048 + k / 32) 0) x (k % 32)
+  mark-fits b e =
       record {
         few = rw word-before (word-few (writesFrom t (k / 32)) (k % 32));
-        low = bit-few b;
+        low = rw e (bit-few b);
         inside = omega arith;
       }
 
@@ -146,11 +146,11 @@ module _ {t : Trace} {k : ℕ} {cells : List ℕ} (r : CellsRead t k cells) (l :
             ) (r .marks u i)
       ]
 
-  pub read-more : {o : Operation} {at first last word : ℕ} → o ≡ operation t k → CellsFit o → at ≡ place k
-      → first ≡ firstCell o → last ≡ lastCell o
-      → word ≡ getD cells (2048 + k / 32) 0 + bit (isWrite (o .kind)) * 2 ^ (k % 32)
+  pub read-more : {o : Operation} {at first last mark word : ℕ} → o ≡ operation t k → CellsFit o → at ≡ place k
+      → first ≡ firstCell o → last ≡ lastCell o → mark ≡ bit (isWrite (o .kind))
+      → word ≡ getD cells (2048 + k / 32) 0 + mark * 2 ^ (k % 32)
       → CellsRead t (k + 1) (set (set (set cells at first) (1024 + at) last) (2048 + k / 32) word)
-  read-more z fits p e f g = read-next p (rw z at fits) (rw z at e) (rw z at f) (rw z at g)
+  read-more z fits p e f m g = read-next p (rw z at fits) (rw z at e) (rw z at f) (rw (m, z) at g)
 
 -- ---- the end
 

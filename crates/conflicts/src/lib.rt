@@ -3,6 +3,7 @@ ghost use mathlib.Core.Path.{_≡_};
 ghost use Prim.Native.Nat.{_+_, _*_, _^_, _<_};
 ghost use lib.ListN.{length, getD};
 ghost use Rattle.trace.specs.Reading.{traceOf};
+ghost use Rattle.trace.specs.Trace.{isWrite};
 ghost use Rattle.conflicts.specs.Cells.{bit, BitFits, firstCell, lastCell, CellsFit, place, Unmarked, CellsRead};
 ghost use Rattle.conflicts.specs.Cells.{NextCells, CellsHold, ReadsCells, meet, metAt, BlockAt, BlockMet};
 ghost use Rattle.conflicts.specs.Cells.{ConflictsIn};
@@ -27,6 +28,13 @@ fn last_cell(o: Operation) -> u32
         return o.number + (o.length as u32 - 1);
     }
     0
+}
+
+// 1 for a Write; 0 for another operation.
+fn write_bit(o: Operation) -> u32
+    ensures { λ r. ⌜ r ≡ bit (isWrite (o .kind)) ⌝ }
+{
+    (o.kind == 4) as u32
 }
 
 // Where the first cell of operation k stands. The last one stands 1,024 behind it.
@@ -66,7 +74,7 @@ fn read_operation(file: &[u8], k: usize, cells: &mut [u32; 2080])
     let at = place_of(k);
     let first = first_cell(o);
     let last = last_cell(o);
-    let write = (o.kind == 4) as u32;
+    let write = write_bit(o);
     let marks = add_bit(cells[2048 + k / 32], write, k % 32);
     cells[at] = first;
     cells[1024 + at] = last;

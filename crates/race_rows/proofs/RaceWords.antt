@@ -20,7 +20,7 @@ use Rattle.meetings.specs.Meetings.{isNoted}
 use Rattle.unordered.specs.Kept.{held}
 use Rattle.race_model.specs.RaceList.{isRace}
 use Rattle.race_model.proofs.RaceTests.{no-race-outside}
-use Rattle.race_rows.specs.Rows.{After, RaceWord, RowReady}
+use Rattle.race_rows.specs.Rows.{After, RaceWord, ToNote, RowReady}
 
 -- ---- after a
 
@@ -50,10 +50,13 @@ race-asked t a b l = go (ltb a b) (inConflict (operation t a) (operation t b) &&
     go false true = refl
     go false false = refl
 
-module _ {t : Trace} {a : ℕ} {cells kept seen : List ℕ} {w slot : ℕ} (h : RowReady t a cells kept seen w slot)
+module _ {t : Trace} {a : ℕ} {cells kept seen : List ℕ} {w slot : ℕ} (ready : RowReady t a cells kept seen w slot)
     {v x y z r : ℕ} (few : v < 32) (from : a / 32 ≤ v)
     (c : ConflictsIn cells a (getD seen (32 * slot + v) 0) v x) (f : Common x (getD kept (32 * w + v) 0) y)
     (o : After a v z) (m : Common y z r) where
+  abbrev h : ToNote t a cells kept seen w slot
+  h = ready .to-note
+
   module _ (i : ℕ) (l : i < 32) where
     abbrev b : ℕ
     b = 32 * v + i
@@ -101,7 +104,7 @@ module _ {t : Trace} {a : ℕ} {cells kept seen : List ℕ} {w slot : ℕ} (h : 
         kept-here = rw (h .worker, h .free .each b (omega arith), lt-ltb b (size t) inside, apart later, free)
 
         noted : isNoted seen slot (b / 128) ≡ true
-        noted = h .noted b (omega arith) (omega (arith, h .few)) kept-here
+        noted = ready .noted b (omega arith) (omega (arith, h .few)) kept-here
 
         met : isIn (getD seen (32 * slot + v) 0) i
             ≡ metAt cells (getD cells (place a) 0) (getD cells (1024 + place a) 0) (place b)

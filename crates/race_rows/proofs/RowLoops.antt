@@ -40,11 +40,12 @@ module _ (t : Trace) (a : ℕ) where
 
 -- the races with the operations below 32 v are counted
 pub record CountedTo (t : Trace) (a v count : ℕ) : Type 0 where
+  pub from : a / 32 ≤ v
   pub counts : count ≡ length (rowTo t a v)
 
 module _ {t : Trace} {a : ℕ} where
   pub counted-start : CountedTo t a (a / 32) 0
-  counted-start = record { counts = sym (ap length (row-start t a)) }
+  counted-start = record { from = omega arith; counts = sym (ap length (row-start t a)) }
 
   module _ {v count : ℕ} (c : CountedTo t a v count) where
     pub counted-few : count ≤ 32 * v
@@ -54,6 +55,7 @@ module _ {t : Trace} {a : ℕ} where
         → CountedTo t a (v + 1) (count + more)
     counted-more {x} {more} r e =
         record {
+          from = omega (arith, c .from);
           counts =
               rw (row-more t a r, length-append, length-map (passing (isIn x) 32) (λ i. 32 * v + i))
               (omega (arith, c .counts, e));
@@ -66,6 +68,7 @@ module _ {t : Trace} {a : ℕ} where
 
 -- the races with the operations below 32 v are listed
 pub record ListedTo (t : Trace) (a v : ℕ) (row : List ℕ) (at : ℕ) : Type 0 where
+  pub from : a / 32 ≤ v
   pub long : length row ≡ 1024
   pub counts : at ≡ length (rowTo t a v)
   pub front : take at row ≡ rowTo t a v
@@ -73,7 +76,12 @@ pub record ListedTo (t : Trace) (a v : ℕ) (row : List ℕ) (at : ℕ) : Type 0
 module _ {t : Trace} {a : ℕ} {row : List ℕ} where
   pub listed-start : length row ≡ 1024 → ListedTo t a (a / 32) row 0
   listed-start e =
-      record { long = e; counts = sym (ap length (row-start t a)); front = sym (row-start t a) }
+      record {
+        from = omega arith;
+        long = e;
+        counts = sym (ap length (row-start t a));
+        front = sym (row-start t a);
+      }
 
   module _ {v at : ℕ} (c : ListedTo t a v row at) where
     pub listed-room : v < 32 → Room (32 * v) at row
@@ -88,6 +96,7 @@ module _ {t : Trace} {a : ℕ} {row : List ℕ} where
         → ListedTo t a (v + 1) row′ end
     listed-more {x} r l =
         record {
+          from = omega (arith, c .from);
           long = l .long;
           counts =
               rw (row-more t a r, length-append, length-map (passing (isIn x) 32) (λ i. 32 * v + i))

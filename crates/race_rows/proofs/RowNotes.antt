@@ -15,7 +15,7 @@ use Rattle.meetings.specs.Meetings.{firstOf, lastOf, isNoted, Notes, BlockNoted
 use Rattle.table_entries.specs.Entries.{HoldsTable}
 use Rattle.trace.specs.Reading.{traceOf}
 use Rattle.unordered.specs.Kept.{held, Now}
-use Rattle.race_rows.specs.Rows.{NotedTo, BlockDone, Searching, Begun, CountsAt, RowsAt}
+use Rattle.race_rows.specs.Rows.{NotedTo, BlockEmpty, BlockDone, ToNote, RowReady, Searching, Begun, CountsAt, RowsAt}
 
 -- ---- a block
 
@@ -35,7 +35,7 @@ module _ {k₀ k₁ k₂ k₃ x y z : ℕ} (f : Joined k₀ k₁ x) (g : Joined 
 pub block-empty : (kept : List ℕ) (w block : ℕ) {x y z : ℕ} → Joined (getD kept (32 * w + 4 * block) 0)
     (getD kept (32 * w + 4 * block + 1) 0) x
     → Joined (getD kept (32 * w + 4 * block + 2) 0) (getD kept (32 * w + 4 * block + 3) 0) y → Joined x y z → z ≡ 0
-    → (b : ℕ) → b / 128 ≡ block → held kept w b ≡ false
+    → BlockEmpty kept w block
 unfolding held
 block-empty kept w block f g h e b i = go (b / 32 % 4) refl
   where
@@ -50,7 +50,7 @@ block-empty kept w block f g h e b i = go (b / 32 % 4) refl
     go (suc (suc (suc (suc l)))) s = absurd (omega (arith, s))
 
 pub done-empty : {cells kept seen : List ℕ} {w s block : ℕ} → Notes cells seen
-    → ((b : ℕ) → b / 128 ≡ block → held kept w b ≡ false) → BlockDone cells kept seen w s block seen
+    → BlockEmpty kept w block → BlockDone cells kept seen w s block seen
 done-empty n f =
     record {
       notes = n;
@@ -114,6 +114,32 @@ module _ {cells kept seen : List ℕ} {w s : ℕ} where
       where
         none : (b : ℕ) → size t ≤ b → b < 1024 → held kept w b ≡ false
         none b i j = rw (e, free .each b j, le-ltb b (size t) i)
+
+-- all that the row needs is noted
+pub row-noted : {t : Trace} {a : ℕ} {cells kept seen seen′ : List ℕ} {w slot block : ℕ}
+    → ToNote t a cells kept seen w slot
+    → NotingTo cells kept w slot (firstOf seen slot) (lastOf seen slot) (a / 128) block seen′ → size t ≤ 128 * block
+    → RowReady t a cells kept seen′ w slot
+row-noted {t} {a} h n l =
+    record {
+      to-note =
+          record {
+            worker = h .worker;
+            known = h .known;
+            inside = h .inside;
+            few = h .few;
+            cells-hold = h .cells-hold;
+            free = h .free;
+            notes = n .notes;
+            slot-for =
+                record {
+                  few = h .slot-for .few;
+                  first = n .first-same ∙ h .slot-for .first;
+                  last = n .last-same ∙ h .slot-for .last;
+                };
+          };
+      noted = noting-end n t a (h .worker) (h .free) l;
+    }
 
 -- ---- the arrays
 

@@ -2,7 +2,7 @@
 -- conflict with it.
 -- Follows: document 01, "Race list".
 -- Differs: nowhere. Means: no call's contract speaks of these.
-use mathlib.Core.Bool.{true}
+use mathlib.Core.Bool.{true, false}
 use mathlib.Core.List.{List}
 use mathlib.Core.Path.{_≡_}
 use Prim.Native.Nat.{ℕ, _+_, _*_, _/_, _<_, _≤_}
@@ -30,8 +30,8 @@ abbrev pub NotedTo : List ℕ → ℕ → List ℕ → ℕ → ℕ → ℕ → T
 NotedTo kept w seen slot from to =
     (b : ℕ) → from ≤ b / 128 → b / 128 < to → held kept w b ≡ true → isNoted seen slot (b / 128) ≡ true
 
--- what the words of row a are found from
-pub record RowReady (t : Trace) (a : ℕ) (cells kept seen : List ℕ) (w slot : ℕ) : Type 0 where
+-- what is known of row a before its blocks are noted
+pub record ToNote (t : Trace) (a : ℕ) (cells kept seen : List ℕ) (w slot : ℕ) : Type 0 where
   pub worker : w ≡ workerOf t a
   pub known : w < 16
   pub inside : a < size t
@@ -40,7 +40,15 @@ pub record RowReady (t : Trace) (a : ℕ) (cells kept seen : List ℕ) (w slot :
   pub free : Now t a kept
   pub notes : Notes cells seen
   pub slot-for : SlotFor cells seen a slot
+
+-- what its words are found from
+pub record RowReady (t : Trace) (a : ℕ) (cells kept seen : List ℕ) (w slot : ℕ) : Type 0 where
+  pub to-note : ToNote t a cells kept seen w slot
   pub noted : NotedTo kept w seen slot (a / 128) 8
+
+-- no operation of a block is in the kept set of worker w
+abbrev pub BlockEmpty : List ℕ → ℕ → ℕ → Type 0
+BlockEmpty kept w block = (b : ℕ) → b / 128 ≡ block → held kept w b ≡ false
 
 -- a block is done in slot s: where the set of worker w has an operation in it, it is noted; what was noted still is
 pub record BlockDone (cells kept seen : List ℕ) (w s block : ℕ) (seen′ : List ℕ) : Type 0 where

@@ -23,8 +23,8 @@ last-cell-requires c κs =
     let o = c2 .operation-of in
     operation-fits _ (pre .trace) (pre .inside) (o .ensures) (omega (arith, o .ok))
 
-cast-write : tie.Need-cast-write
-cast-write c = search needs
+write-bit-requires : tie.Need-write-bit-requires
+write-bit-requires c κs = search needs
 
 add-add-bit : tie.Need-add-add-bit
 add-add-bit c = search needs
@@ -39,9 +39,10 @@ element-copy-out-add-bit c =
 
 add-bit-requires : tie.Need-add-bit-requires
 add-bit-requires c κs =
-    let c5 = c .before .before .before .before .before in
-    let c7 = c5 .before .before in
-    mark-fits (c7 .pre .before) (next-low (c7 .pre)) (isWrite (c5 .operation-of .result .kind))
+    let c1 = c .before in
+    let c5 = c1 .before .before .before .before in
+    let pre = c5 .before .before .pre in
+    mark-fits (pre .before) (next-low pre) (isWrite (c5 .operation-of .result .kind)) (c1 .write-bit .ensures)
 
 mul-cells : tie.Need-mul-cells
 mul-cells c = search needs
@@ -71,14 +72,15 @@ element-write-cells-3 c =
 
 returns : tie.Need-returns
 returns c =
-    let c3 = c .before .before .before in
+    let c2 = c .before .before in
+    let c3 = c2 .before in
     let c4 = c3 .before in
     let c5 = c4 .before in
     let pre = c5 .before .before .before .pre in
     let o = c5 .before .operation-of in
     let fits = operation-fits _ (pre .trace) (pre .inside) (o .ensures) (omega (arith, o .ok)) in
     read-more (pre .before) (next-low pre) (o .ensures) fits (c5 .place-of .ensures .0) (c4 .first-cell .ensures)
-    (c3 .last-cell .ensures) (c .add-bit .ensures)
+    (c3 .last-cell .ensures) (c2 .write-bit .ensures) (c .add-bit .ensures)
 
 pub read-operation-spec : {M : Type 1} → statement M
 read-operation-spec =
@@ -88,7 +90,7 @@ read-operation-spec =
     place-of-requires
     first-cell-requires
     last-cell-requires
-    cast-write
+    write-bit-requires
     add-add-bit
     mul-add-bit
     element-copy-out-add-bit
