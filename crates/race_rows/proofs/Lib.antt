@@ -1,5 +1,6 @@
 -- RaceWords: a word of races. RowLoops: a row of races, word by word. RowNotes:
--- noting what a row needs.
+-- noting what a row needs. RowOpening: a row is opened.
 pub mod RaceWords
 pub mod RowLoops
 pub mod RowNotes
+pub mod RowOpening

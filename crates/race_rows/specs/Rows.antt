@@ -65,6 +65,11 @@ pub record Searching (t : Trace) (a : ℕ) (cells next kept seen : List ℕ) : T
   pub kept-holds : Kept t a kept
   pub notes : Notes cells seen
 
+-- row a is open, with the cells of `slot`, and the next row can be
+pub record RowOpen (t : Trace) (a : ℕ) (cells next kept seen : List ℕ) (slot : ℕ) : Type 0 where
+  pub ready : RowReady t a cells kept seen (workerOf t a) slot
+  pub on : Searching t (a + 1) cells next kept seen
+
 -- arrays for it; from row 1 on they hold it
 pub record Begun (t : Trace) (a : ℕ) (cells next kept seen : List ℕ) : Type 0 where
   pub cells-long : length cells ≡ 2080

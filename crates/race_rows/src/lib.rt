@@ -1,14 +1,15 @@
 // The races of one operation with all later ones: what is unordered with it and in conflict with it, as sets of bits.
 ghost use mathlib.Core.Bool.{true};
 ghost use mathlib.Core.Path.{_≡_};
-ghost use Prim.Native.Nat.{_/_, _<_, _≤_};
+ghost use Prim.Native.Nat.{_+_, _/_, _<_, _≤_};
 ghost use lib.ListN.{length};
 ghost use Rattle.trace.specs.Reading.{reads, fileReading, traceOf};
 ghost use Rattle.trace.specs.Trace.{size, workerOf};
 ghost use Rattle.meetings.specs.Meetings.{Notes};
 ghost use Rattle.unordered.specs.Kept.{held, Now};
 ghost use Rattle.race_model.specs.RaceRows.{raceRow, RowHolds};
-ghost use Rattle.race_rows.specs.Rows.{After, RaceWord, BlockEmpty, BlockDone, ToNote, RowReady};
+ghost use Rattle.race_rows.specs.Rows.{After, RaceWord, BlockEmpty, BlockDone, ToNote, RowReady, RowOpen};
+ghost use Rattle.race_rows.specs.Rows.{Searching, Begun, CountsAt, RowsAt};
 
 // Of the 32 operations from 32 v on, those after a.
 fn after(a: usize, v: usize) -> u32
@@ -144,4 +145,108 @@ fn list_words(
         v += 1;
     }
     at
+}
+
+// Reads the file for the rows.
+fn begin(
+    file: &[u8],
+    cells: &mut [u32; 2080],
+    next: &mut [u32; 1024],
+    kept: &mut [u32; 1536],
+    seen: &mut [u32; 1120],
+)
+    requires { ⌜ (fileReading (now file) ≡ reads (traceOf (now file)))
+        × Begun (traceOf (now file)) 0 (now cells) (now next) (now kept) (now seen) ⌝ }
+    ensures { λ r. ⌜ Searching (traceOf (now (file .entry))) 0 (now (cells .exit)) (now (next .exit))
+        (now (kept .exit)) (now (seen .exit)) ⌝ }
+{
+    conflicts::read_cells(file, cells);
+    // TODO
+    meetings::forget_all(seen);
+}
+
+// The same before row 0; before another row, nothing.
+fn begin_first(
+    file: &[u8],
+    a: usize,
+    cells: &mut [u32; 2080],
+    next: &mut [u32; 1024],
+    kept: &mut [u32; 1536],
+    seen: &mut [u32; 1120],
+)
+    requires { ⌜ (fileReading (now file) ≡ reads (traceOf (now file)))
+        × Begun (traceOf (now file)) a (now cells) (now next) (now kept) (now seen) ⌝ }
+    ensures { λ r. ⌜ Searching (traceOf (now (file .entry))) a (now (cells .exit)) (now (next .exit))
+        (now (kept .exit)) (now (seen .exit)) ⌝ }
+{
+    if 0 < a {
+        return;
+    }
+    begin(file, cells, next, kept, seen);
+}
+
+// Goes on to row a, and answers the slot of its cells.
+fn open_row(
+    file: &[u8],
+    table: &[u16],
+    a: usize,
+    cells: &mut [u32; 2080],
+    next: &mut [u32; 1024],
+    kept: &mut [u32; 1536],
+    seen: &mut [u32; 1120],
+) -> usize
+    requires { ⌜ CountsAt (now file) (now table) a (now cells) (now next) (now kept) (now seen)
+        × (a < size (traceOf (now file))) ⌝ }
+    ensures { λ r. ⌜ RowOpen (traceOf (now (file .entry))) a (now (cells .exit)) (now (next .exit)) (now (kept .exit))
+        (now (seen .exit)) r ⌝ }
+{
+    begin_first(file, a, cells, next, kept, seen);
+    unordered::carry_on(file, table, next, a, kept);
+    let slot = meetings::slot_for(cells, a, seen);
+    let w = basics::byte_index(trace::worker_of(file, a));
+    note_row(file, cells, kept, a, w, slot, seen);
+    slot
+}
+
+// How many races there are whose lower operation is a. Rows are asked for in order, from 0 on; row 0 begins the search.
+pub fn count_row(
+    file: &[u8],
+    table: &[u16],
+    a: usize,
+    cells: &mut [u32; 2080],
+    next: &mut [u32; 1024],
+    kept: &mut [u32; 1536],
+    seen: &mut [u32; 1120],
+) -> usize
+    requires { ⌜ CountsAt (now file) (now table) a (now cells) (now next) (now kept) (now seen)
+        × (a < size (traceOf (now file))) ⌝ }
+    ensures { λ r. ⌜ (r ≡ length (raceRow (traceOf (now (file .entry))) a))
+        × CountsAt (now (file .entry)) (now (table .entry)) (a + 1) (now (cells .exit)) (now (next .exit))
+        (now (kept .exit)) (now (seen .exit)) ⌝ }
+{
+    let slot = open_row(file, table, a, cells, next, kept, seen);
+    let w = basics::byte_index(trace::worker_of(file, a));
+    count_words(file, cells, kept, seen, a, w, slot)
+}
+
+// The higher operations of these races, and how many there are.
+pub fn list_row(
+    file: &[u8],
+    table: &[u16],
+    a: usize,
+    cells: &mut [u32; 2080],
+    next: &mut [u32; 1024],
+    kept: &mut [u32; 1536],
+    seen: &mut [u32; 1120],
+    row: &mut [u16; 1024],
+) -> usize
+    requires { ⌜ RowsAt (now file) (now table) a (now cells) (now next) (now kept) (now seen) (now row)
+        × (a < size (traceOf (now file))) ⌝ }
+    ensures { λ r. ⌜ RowHolds (raceRow (traceOf (now (file .entry))) a) r (now (row .exit))
+        × RowsAt (now (file .entry)) (now (table .entry)) (a + 1) (now (cells .exit)) (now (next .exit))
+        (now (kept .exit)) (now (seen .exit)) (now (row .exit)) ⌝ }
+{
+    let slot = open_row(file, table, a, cells, next, kept, seen);
+    let w = basics::byte_index(trace::worker_of(file, a));
+    list_words(file, cells, kept, seen, a, w, slot, row)
 }

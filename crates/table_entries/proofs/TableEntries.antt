@@ -50,7 +50,7 @@ pair-back r =
     }
 
 module _ {bytes table : List ℕ} (h : HoldsTable bytes table) where
-  entry-inside : (k q : ℕ) → k < size (traceOf bytes) → q < traceOf bytes .workers
+  pub entry-inside : (k q : ℕ) → k < size (traceOf bytes) → q < traceOf bytes .workers
       → Inside table (traceOf bytes .workers) k q
   entry-inside k q i j =
       record {

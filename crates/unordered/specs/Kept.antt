@@ -49,9 +49,9 @@ highOf kept w q = getD kept (512 + 16 * w + q) 0
 abbrev pub lowOf : List ℕ → ℕ → ℕ → ℕ
 lowOf kept w q = getD kept (768 + 16 * w + q) 0
 
--- is b an operation from `low` on and below `high`?
-abbrev pub between : Trace → ℕ → ℕ → ℕ → Bool
-between t low high b = ltb b (size t) && (leb low b && ltb b high)
+-- is b from `low` on, and below `high`?
+abbrev pub between : ℕ → ℕ → ℕ → Bool
+between low high b = leb low b && ltb b high
 
 -- both ends are right for the operations of w from a on: of q's operations those below `low` are certain before each,
 -- and each is certain before none of those below `high`. A worker's own operations stay out of its set.
@@ -67,8 +67,9 @@ pub record Ends (t : Trace) (a w q low high : ℕ) : Type 0 where
 pub record Kept (t : Trace) (a : ℕ) (kept : List ℕ) : Type 0 where
   pub long : length kept ≡ 1536
   pub ends : (w q : ℕ) → w < t .workers → q < t .workers → Ends t a w q (lowOf kept w q) (highOf kept w q)
-  pub sets : (w b : ℕ) → w < t .workers → b < 1024
-      → held kept w b ≡ between t (lowOf kept w (workerOf t b)) (highOf kept w (workerOf t b)) b
+  pub sets : {q b : ℕ} (w : ℕ) → w < t .workers → IsOf t q b
+      → held kept w b ≡ between (lowOf kept w q) (highOf kept w q) b
+  pub rest : (w b : ℕ) → w < t .workers → size t ≤ b → b < 1024 → held kept w b ≡ false
 
 -- the set of a's worker holds the other operations that are unordered with a
 pub record Now (t : Trace) (a : ℕ) (kept : List ℕ) : Type 0 where
