@@ -46,7 +46,7 @@ use Rattle.two_runs.proofs.Questions.{runs-comes-out, refused-runs-number}
 use Rattle.beginning.specs.Computed.{prefixOf, beginningOf, asPrefix, numbersOf, startOf, BeginningCall}
 use Rattle.beginning.specs.Returned.{Part, Returned}
 use Rattle.beginning.proofs.Beginnings.{beginning-returned, prefix-returned, call-returned}
-use Rattle.race_search.specs.declared.Race.{Race}
+use Rattle.race_model.specs.declared.Race.{Race}
 use Rattle.races.specs.declared.RacesAnswer.{RacesAnswer}
 use Rattle.races.specs.declared.RacesAnswer.the-variants as races
 use Rattle.races.specs.Races.{racesAnswer, shorter, CountCall, RacesCall}

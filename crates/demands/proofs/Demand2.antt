@@ -32,10 +32,10 @@ use Rattle.order_table.specs.declared.TableAnswer.{TableAnswer}
 use Rattle.order_table.specs.Refusals.{AcceptedTable}
 use Rattle.order_table.specs.Table.{TableCall}
 use Rattle.order_table.proofs.Entries.{after-execution, after-must-precede, after-past}
-use Rattle.race_search.specs.declared.Race.{Race}
-use Rattle.race_search.specs.Race.{Conflict, RaceIn, RaceListOf}
-use Rattle.race_search.specs.RaceList.{raceList, raceCount}
-use Rattle.race_search.proofs.OnlyList.{list-of, list-only}
+use Rattle.race_model.specs.declared.Race.{Race}
+use Rattle.race_model.specs.Race.{Conflict, RaceIn, RaceListOf}
+use Rattle.race_model.specs.RaceList.{raceList, raceCount}
+use Rattle.race_model.proofs.OnlyList.{list-of, list-only}
 use Rattle.races.specs.declared.RacesAnswer.{RacesAnswer}
 use Rattle.races.specs.declared.RacesAnswer.the-variants as races
 use Rattle.races.specs.Races.{raceRecords, shorter, CountCall, RacesCall}

@@ -19,10 +19,10 @@ use Rattle.accept.proofs.Answers.{answer-means}
 use Rattle.accept.proofs.Questions.{refused-file, refused-number, accepted-limits, accepted-workers}
 use Rattle.lent.proofs.Writing.{written-past}
 use Rattle.order_table.specs.Refusals.{AcceptedTable}
-use Rattle.race_search.specs.declared.Race.{Race}
-use Rattle.race_search.specs.Race.{RaceListOf}
-use Rattle.race_search.specs.RaceList.{raceList}
-use Rattle.race_search.proofs.OnlyList.{list-only}
+use Rattle.race_model.specs.declared.Race.{Race}
+use Rattle.race_model.specs.Race.{RaceListOf}
+use Rattle.race_model.specs.RaceList.{raceList}
+use Rattle.race_model.proofs.OnlyList.{list-only}
 use Rattle.races.specs.Races.{racesReading}
 use Rattle.races.specs.Refusals.{RefusedRaces}
 use Rattle.races.proofs.Questions.{races-comes-out, refused-short}

@@ -20,7 +20,7 @@ use Rattle.pair_order.specs.Refusals.{AcceptedPair, RefusedPair}
 use Rattle.two_runs.specs.declared.RunsAnswer.{RunsAnswer}
 use Rattle.two_runs.specs.declared.RunsAnswer.the-variants as runs
 use Rattle.two_runs.specs.Refusals.{AcceptedRuns, RefusedRuns}
-use Rattle.race_search.specs.RaceList.{raceList, raceCount}
+use Rattle.race_model.specs.RaceList.{raceList, raceCount}
 use Rattle.races.specs.declared.RacesAnswer.{RacesAnswer}
 use Rattle.races.specs.declared.RacesAnswer.the-variants as races
 use Rattle.races.specs.Refusals.{AcceptedRaces, RefusedRaces}

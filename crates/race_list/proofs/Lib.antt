@@ -3,6 +3,8 @@
 -- is in the lent list after the call.
 pub mod RecordWriting
 pub mod LentOpen
+pub mod LentRow
+pub mod LentArray
 pub mod LentAgain
 pub mod LentShared
 pub mod Lists

@@ -7,8 +7,8 @@ use lib.Seq.{take-at}
 use Rattle.trace.specs.Reading.{refused}
 use Rattle.trace.specs.Trace.{Trace}
 use Rattle.lent.proofs.Writing.{written-length, written-past}
-use Rattle.race_search.specs.declared.Race.{Race}
-use Rattle.race_search.specs.RaceList.{raceList, raceCount}
+use Rattle.race_model.specs.declared.Race.{Race}
+use Rattle.race_model.specs.RaceList.{raceList, raceCount}
 use Rattle.races.specs.Races.{racesReading, racesListed}
 use Rattle.races.specs.Refusals.{AcceptedRaces}
 use Rattle.races.proofs.Listed.{listed-none, listed-all, listed-fits}

@@ -14,6 +14,7 @@ use Rattle.words.proofs.Sets.{none-in}
 use Rattle.meetings.specs.Meetings.{firstOf, lastOf, isNoted, Notes, BlockNoted}
 use Rattle.table_entries.specs.Entries.{HoldsTable}
 use Rattle.trace.specs.Reading.{traceOf}
+use Rattle.unordered.specs.Beginning.{Zeros}
 use Rattle.unordered.specs.Kept.{held, Now}
 use Rattle.race_rows.specs.Rows.{NotedTo, BlockEmpty, BlockDone, ToNote, RowReady, Searching, Begun, CountsAt, RowsAt}
 
@@ -144,29 +145,31 @@ row-noted {t} {a} h n l =
 -- ---- the arrays
 
 pub begun-start : {t : Trace} {cells next kept seen : List ℕ} → length cells ≡ 2080 → length next ≡ 1024
-    → length kept ≡ 1536 → length seen ≡ 1120 → Begun t 0 cells next kept seen
+    → Zeros kept → length seen ≡ 1120 → Begun t 0 cells next kept seen
 begun-start c n k s =
     record {
       cells-long = c;
       next-long = n;
-      kept-long = k;
+      kept-long = k .long;
+      kept-none = λ l. k;
       seen-long = s;
       searching = λ l. absurd (omega arith);
     }
 
-pub begun-on : {t : Trace} {a : ℕ} {cells next kept seen : List ℕ} → Searching t a cells next kept seen
-    → Begun t a cells next kept seen
-begun-on s =
+pub begun-on : {t : Trace} (a : ℕ) {cells next kept seen : List ℕ} → Searching t (a + 1) cells next kept seen
+    → Begun t (a + 1) cells next kept seen
+begun-on a s =
     record {
       cells-long = s .cells-hold .long;
       next-long = s .next-holds .long;
       kept-long = s .kept-holds .long;
+      kept-none = λ l. absurd (omega (arith, l));
       seen-long = s .notes .long;
       searching = λ l. s;
     }
 
 pub rows-start : {bytes table cells next kept seen row : List ℕ} → HoldsTable bytes table → length cells ≡ 2080
-    → length next ≡ 1024 → length kept ≡ 1536 → length seen ≡ 1120 → length row ≡ 1024
+    → length next ≡ 1024 → Zeros kept → length seen ≡ 1120 → length row ≡ 1024
     → RowsAt bytes table 0 cells next kept seen row
 rows-start h c n k s r =
     record { counts-at = record { holds = h; begun = begun-start c n k s }; row-long = r }

@@ -14,6 +14,7 @@ use Rattle.words.specs.Words.{isIn}
 use Rattle.conflicts.specs.Cells.{CellsHold}
 use Rattle.meetings.specs.Meetings.{firstOf, lastOf, isNoted, Notes, SlotFor}
 use Rattle.table_entries.specs.Entries.{HoldsTable}
+use Rattle.unordered.specs.Beginning.{Zeros}
 use Rattle.unordered.specs.Kept.{HoldsNext, held, Kept, Now}
 use Rattle.race_model.specs.RaceList.{isRace}
 
@@ -75,6 +76,7 @@ pub record Begun (t : Trace) (a : ℕ) (cells next kept seen : List ℕ) : Type 
   pub cells-long : length cells ≡ 2080
   pub next-long : length next ≡ 1024
   pub kept-long : length kept ≡ 1536
+  pub kept-none : a < 1 → Zeros kept
   pub seen-long : length seen ≡ 1120
   pub searching : 1 ≤ a → Searching t a cells next kept seen
 

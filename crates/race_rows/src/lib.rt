@@ -1,5 +1,6 @@
 // The races of one operation with all later ones: what is unordered with it and in conflict with it, as sets of bits.
 ghost use mathlib.Core.Bool.{true};
+ghost use mathlib.Core.List.{[]};
 ghost use mathlib.Core.Path.{_≡_};
 ghost use Prim.Native.Nat.{_+_, _/_, _<_, _≤_};
 ghost use lib.ListN.{length};
@@ -161,7 +162,7 @@ fn begin(
         (now (kept .exit)) (now (seen .exit)) ⌝ }
 {
     conflicts::read_cells(file, cells);
-    // TODO
+    unordered::begin(file, next, kept);
     meetings::forget_all(seen);
 }
 
@@ -249,4 +250,30 @@ pub fn list_row(
     let slot = open_row(file, table, a, cells, next, kept, seen);
     let w = basics::byte_index(trace::worker_of(file, a));
     list_words(file, cells, kept, seen, a, w, slot, row)
+}
+
+// The same, unless `some` is 0, which says that there are none: then the row is passed over.
+pub fn list_row_if(
+    file: &[u8],
+    table: &[u16],
+    a: usize,
+    some: u16,
+    cells: &mut [u32; 2080],
+    next: &mut [u32; 1024],
+    kept: &mut [u32; 1536],
+    seen: &mut [u32; 1120],
+    row: &mut [u16; 1024],
+) -> usize
+    requires { ⌜ RowsAt (now file) (now table) a (now cells) (now next) (now kept) (now seen) (now row)
+        × (a < size (traceOf (now file)))
+        × (some ≡ 0 → raceRow (traceOf (now file)) a ≡ []) ⌝ }
+    ensures { λ r. ⌜ RowHolds (raceRow (traceOf (now (file .entry))) a) r (now (row .exit))
+        × RowsAt (now (file .entry)) (now (table .entry)) (a + 1) (now (cells .exit)) (now (next .exit))
+        (now (kept .exit)) (now (seen .exit)) (now (row .exit)) ⌝ }
+{
+    if some < 1 {
+        begin_first(file, a, cells, next, kept, seen);
+        return 0;
+    }
+    list_row(file, table, a, cells, next, kept, seen, row)
 }

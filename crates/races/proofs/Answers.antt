@@ -22,8 +22,8 @@ use Rattle.order_table.specs.declared.TableAnswer.the-variants as table
 use Rattle.order_table.proofs.Answers.{table-refused, table-filled}
 use Rattle.order_table.proofs.Entries.{after-length, after-entry}
 use Rattle.order_table.proofs.Questions.{table-comes-out}
-use Rattle.race_search.specs.Premises.{HoldsTable}
-use Rattle.race_search.specs.RaceList.{raceList, raceCount}
+use Rattle.table_entries.specs.Entries.{HoldsTable}
+use Rattle.race_model.specs.RaceList.{raceList, raceCount}
 use Rattle.races.specs.Premises.{Writable, AllWritten, tooMany, ListsCall}
 use Rattle.races.specs.Races.{lowerAfter, higherAfter, CountCall, RacesCall}
 use Rattle.races.specs.Races.{racesReading, answerOf, racesAnswer, listedBy, racesListed, toWrite, shorter}
@@ -124,7 +124,7 @@ module _ {bytes lent now : List ℕ} {room : ℕ} {answer : RacesAnswer} (c : Co
       go (refused q k) e =
           rw (c .answers, answer-by bytes (length lent) room e)
           (record {
-            writable = record { holds = λ l. absurd (omega (arith, l)); enough = omega arith };
+            writable = record { holds = λ l. absurd (omega (arith, l)); all = λ l. absurd (omega (arith, l)) };
             fits = omega arith;
             listed = listed-by bytes (length lent) room e;
           })
@@ -135,7 +135,7 @@ module _ {bytes lent now : List ℕ} {room : ℕ} {answer : RacesAnswer} (c : Co
           (record {
             writable = record {
               holds = λ l. holds-after bytes lent (c .leaves-table) (passed .filled);
-              enough = rw same (omega arith);
+              all = λ l. rw same;
             };
             fits = passed .list-holds;
             listed = listed-by bytes (length lent) room e ∙ rw same (sym (take-length (raceList t)));

@@ -8,8 +8,8 @@ use lib.ListN.{length, getD, take, length-map}
 use Rattle.trace.specs.Reading.{Reading, refused, reads}
 use Rattle.trace.specs.Trace.{Trace}
 use Rattle.lent.proofs.Writing.{written-length, written-past}
-use Rattle.race_search.specs.RaceList.{raceList, raceCount}
-use Rattle.race_search.specs.declared.Race.{Race}
+use Rattle.race_model.specs.RaceList.{raceList, raceCount}
+use Rattle.race_model.specs.declared.Race.{Race}
 use Rattle.races.specs.Races.{higherAfter}
 use Rattle.races.specs.Races.{racesReading, racesListed, lowers, highers, raceRecords, shorter, lowerAfter}
 use Rattle.races.specs.Refusals.{AcceptedRaces}

@@ -12,7 +12,7 @@ use Rattle.trace.proofs.Outcomes.{ComesOut, asks-at-most, ask-next, pass-as, ne
 use Rattle.accept.proofs.Questions.{accepted-same}
 use Rattle.order_table.specs.Refusals.{AcceptedTable, tableNumbers}
 use Rattle.order_table.proofs.Questions.{table-comes-out, refused-table-number}
-use Rattle.race_search.specs.RaceList.{raceCount}
+use Rattle.race_model.specs.RaceList.{raceCount}
 use Rattle.races.specs.Races.{racesReading}
 use Rattle.races.specs.Refusals.{AcceptedRaces, RefusedRaces, racesNumbers}
 

@@ -2,23 +2,29 @@
 -- Follows: document 01, "Race list".
 -- Differs: nowhere. Means: the call's contract speaks of none of these.
 use mathlib.Core.Bool.{cond}
-use mathlib.Core.List.{List}
+use mathlib.Core.List.{List, []}
 use mathlib.Core.Path.{_≡_}
-use Prim.Native.Nat.{ℕ, _≤_}
+use Prim.Native.Nat.{ℕ, _<_, _≤_}
 use lib.Dec.{leb}
-use lib.ListN.{length}
+use lib.ListN.{length, getD}
 use Rattle.trace.specs.Reading.{traceOf}
-use Rattle.trace.specs.Trace.{Trace}
+use Rattle.trace.specs.Trace.{Trace, size}
 use Rattle.lent.specs.Written.{writtenOver}
-use Rattle.race_search.specs.Premises.{HoldsTable}
-use Rattle.race_search.specs.RaceList.{raceList, raceCount}
+use Rattle.table_entries.specs.Entries.{HoldsTable}
+use Rattle.race_model.specs.RaceList.{raceList, raceCount}
+use Rattle.race_model.specs.RaceRows.{raceRow}
 use Rattle.races.specs.Races.{racesAnswer, racesListed, lowers, highers, shorter}
 use Rattle.races.specs.declared.RacesAnswer.{RacesAnswer}
 
--- `count` races can be written: there are so many, and, unless it is 0, a table to find them in
+-- `count` races can be written: none, or all, and then there is a table to find them in
 pub record Writable (bytes table : List ℕ) (count : ℕ) : Type 0 where
   pub holds : 1 ≤ count → HoldsTable bytes table
-  pub enough : count ≤ raceCount (traceOf bytes)
+  pub all : 1 ≤ count → count ≡ raceCount (traceOf bytes)
+
+-- what stands at an operation tells, where it is 0, that the operation has no race with a later one
+pub record Hints (t : Trace) (counts : List ℕ) : Type 0 where
+  pub long : length counts ≡ 1024
+  pub none : (a : ℕ) → a < size t → getD counts a 0 ≡ 0 → raceRow t a ≡ []
 
 -- all races are written to the two lists, and `count` is their number
 pub record AllWritten (t : Trace) (count : ℕ) (lower lower-now higher higher-now : List ℕ) : Type 0 where

@@ -12,10 +12,10 @@ use Rattle.trace.specs.Reading.{Reading, refused, reads, thenAsk}
 use Rattle.trace.specs.Trace.{Trace, size}
 use Rattle.lent.specs.Written.{writtenOver}
 use Rattle.order_table.specs.Table.{tableReading, tableAfter}
-use Rattle.race_search.specs.declared.Race.{Race}
+use Rattle.race_model.specs.declared.Race.{Race}
 use Rattle.races.specs.declared.RacesAnswer.{RacesAnswer}
 use Rattle.races.specs.declared.RacesAnswer.the-variants.{Listed, Refused}
-use Rattle.race_search.specs.RaceList.{pair, raceList, raceCount}
+use Rattle.race_model.specs.RaceList.{pair, raceList, raceCount}
 
 -- 16. "Does the lent race list hold as many records as there are races?" It holds `room` records.
 abbrev pub racesFit : ℕ → Trace → Bool

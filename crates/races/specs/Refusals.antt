@@ -8,7 +8,7 @@ use Prim.Native.Nat.{ℕ, _<_, _≤_}
 use Rattle.trace.specs.Refusals.{RefusedNext}
 use Rattle.trace.specs.Trace.{Trace}
 use Rattle.order_table.specs.Refusals.{AcceptedTable, RefusedTable, tableNumbers}
-use Rattle.race_search.specs.RaceList.{raceCount}
+use Rattle.race_model.specs.RaceList.{raceCount}
 
 -- the file is accepted and the table, of `numbers` numbers, long enough (`AcceptedTable`); and the list, of `room`
 -- records, holds as many as there are races

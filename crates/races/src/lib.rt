@@ -1,13 +1,12 @@
 // The races of a file's trace, written to two lent lists: their lower operations, and their higher ones.
 ghost use mathlib.Core.Path.{_≡_};
-ghost use Prim.Native.Nat.{_+_, _≤_};
-ghost use lib.ListN.{length, replicate};
-ghost use lib.Seq.{paste};
+ghost use Prim.Native.Nat.{_≤_};
+ghost use lib.ListN.{length};
 ghost use Rattle.trace.specs.Premises.{HoldsTrace};
 ghost use Rattle.trace.specs.Reading.{traceOf};
-ghost use Rattle.race_search.specs.Premises.{HoldsTable};
-ghost use Rattle.race_search.specs.RaceList.{raceCount};
-ghost use Rattle.races.specs.Premises.{AllWritten, tooMany, ListsCall};
+ghost use Rattle.table_entries.specs.Entries.{HoldsTable};
+ghost use Rattle.race_model.specs.RaceList.{raceCount};
+ghost use Rattle.races.specs.Premises.{Hints, AllWritten, tooMany, ListsCall};
 ghost use Rattle.races.specs.Races.{shorter, racesAnswer, toWrite, CountCall, RacesCall};
 use order_table::TableAnswer;
 
@@ -24,36 +23,30 @@ pub enum RacesAnswer {
     },
 }
 
-// How many races there are.
-fn count_races(file: &[u8], table: &[u16]) -> u32
-    requires { ⌜ HoldsTable (now file) (now table) ⌝ }
-    ensures { λ r. ⌜ r ≡ raceCount (traceOf (now (file .entry))) ⌝ }
+// How many races there are; `counts` tells how many each operation has with later ones.
+fn count_races(file: &[u8], table: &[u16], counts: &mut [u16; 1024]) -> u32
+    requires { ⌜ HoldsTable (now file) (now table) × (length (now counts) ≡ 1024) ⌝ }
+    ensures { λ r. ⌜ (r ≡ raceCount (traceOf (now (file .entry)))) × Hints (traceOf (now (file .entry))) (now (counts .exit)) ⌝ }
 {
     let n = trace::operation_count(file) as usize;
-    let mut first = [0u32; 1024];
-    let mut last = [0u32; 1024];
-    let mut writes = [0u32; 1024];
-    race_rows::read_cells(file, &mut first, &mut last, &mut writes);
-    let mut workers = [0u8; 1024];
-    let mut own = [0u16; 1024];
-    race_rows::read_places(file, table, &mut workers, &mut own);
-    let mut marks = [0u32; 1024];
-    let mut row = [0u16; 1024];
+    let mut cells = [0u32; 2080];
+    let mut next = [0u32; 1024];
+    let mut kept = [0u32; 1536];
+    let mut seen = [0u32; 1120];
     let mut count: usize = 0;
     let mut a: usize = 0;
     while a < n {
-        count += race_rows::list_row(
+        let found = race_rows::count_row(
             file,
             table,
-            &first,
-            &last,
-            &writes,
-            &workers,
-            &own,
             a,
-            &mut marks,
-            &mut row,
+            &mut cells,
+            &mut next,
+            &mut kept,
+            &mut seen,
         );
+        counts[a] = found as u16;
+        count += found;
         a += 1;
     }
     count as u32
@@ -70,7 +63,8 @@ fn count_if_room(
     requires { ⌜ HoldsTable (now file) (now table) × HoldsTrace (now file) workers operations ⌝ }
     ensures { λ r. ⌜ r ≡ racesAnswer (now (file .entry)) (length (now (table .entry))) room ⌝ }
 {
-    let count = count_races(file, table);
+    let mut counts = [0u16; 1024];
+    let count = count_races(file, table, &mut counts);
     if count as usize <= room {
         return RacesAnswer::Listed {
             workers: workers,
@@ -118,65 +112,43 @@ pub fn to_write(answer: RacesAnswer) -> usize
     }
 }
 
-// Writes a number `count` times, from a place of a list on.
-fn fill(list: &mut [u16], at: usize, count: usize, x: u16)
-    requires { ⌜ at + count ≤ length (now list) ⌝ }
-    ensures { λ r. ⌜ now (list .exit) ≡ paste (now (list .entry)) at (replicate count x) count ⌝ }
-{
-    let mut i: usize = 0;
-    while i < count {
-        list[at + i] = x;
-        i += 1;
-    }
-}
-
-// Writes the first `count` numbers of a row, from a place of a list on.
-fn copy(list: &mut [u16], at: usize, count: usize, row: &[u16; 1024])
-    requires { ⌜ (at + count ≤ length (now list)) × (count ≤ 1024) × (length (now row) ≡ 1024) ⌝ }
-    ensures { λ r. ⌜ now (list .exit) ≡ paste (now (list .entry)) at (now (row .entry)) count ⌝ }
-{
-    let mut i: usize = 0;
-    while i < count {
-        list[at + i] = row[i];
-        i += 1;
-    }
-}
-
-// Writes all races, their lower operations and their higher ones, and answers how many there are.
-fn write_rows(file: &[u8], table: &[u16], lower: &mut [u16], higher: &mut [u16]) -> u32
-    requires { ⌜ HoldsTable (now file) (now table)
+// Writes all races, their lower operations and their higher ones, and answers how many there are. `counts` may tell
+// which operations have none.
+fn write_rows(
+    file: &[u8],
+    table: &[u16],
+    counts: &[u16; 1024],
+    lower: &mut [u16],
+    higher: &mut [u16],
+) -> u32
+    requires { ⌜ HoldsTable (now file) (now table) × Hints (traceOf (now file)) (now counts)
         × (raceCount (traceOf (now file)) ≤ length (now lower))
         × (raceCount (traceOf (now file)) ≤ length (now higher)) ⌝ }
     ensures { λ r. ⌜ AllWritten (traceOf (now (file .entry))) r (now (lower .entry)) (now (lower .exit))
         (now (higher .entry)) (now (higher .exit)) ⌝ }
 {
     let n = trace::operation_count(file) as usize;
-    let mut first = [0u32; 1024];
-    let mut last = [0u32; 1024];
-    let mut writes = [0u32; 1024];
-    race_rows::read_cells(file, &mut first, &mut last, &mut writes);
-    let mut workers = [0u8; 1024];
-    let mut own = [0u16; 1024];
-    race_rows::read_places(file, table, &mut workers, &mut own);
-    let mut marks = [0u32; 1024];
+    let mut cells = [0u32; 2080];
+    let mut next = [0u32; 1024];
+    let mut kept = [0u32; 1536];
+    let mut seen = [0u32; 1120];
     let mut row = [0u16; 1024];
     let mut at: usize = 0;
     let mut a: usize = 0;
     while a < n {
-        let count = race_rows::list_row(
+        let count = race_rows::list_row_if(
             file,
             table,
-            &first,
-            &last,
-            &writes,
-            &workers,
-            &own,
             a,
-            &mut marks,
+            counts[a],
+            &mut cells,
+            &mut next,
+            &mut kept,
+            &mut seen,
             &mut row,
         );
-        fill(lower, at, count, a as u16);
-        copy(higher, at, count, &row);
+        list_writer::fill(lower, at, count, a as u16);
+        list_writer::copy(higher, at, count, &row);
         at += count;
         a += 1;
     }
@@ -194,14 +166,15 @@ fn shorter_of(x: usize, y: usize) -> usize
 }
 
 // The number of races where they are more than `room`; 0 otherwise. They are counted only if they can be more.
-fn too_many(file: &[u8], table: &[u16], room: usize) -> u32
-    requires { ⌜ HoldsTable (now file) (now table) ⌝ }
-    ensures { λ r. ⌜ r ≡ tooMany (raceCount (traceOf (now (file .entry)))) room ⌝ }
+fn too_many(file: &[u8], table: &[u16], room: usize, counts: &mut [u16; 1024]) -> u32
+    requires { ⌜ HoldsTable (now file) (now table) × Hints (traceOf (now file)) (now counts) ⌝ }
+    ensures { λ r. ⌜ (r ≡ tooMany (raceCount (traceOf (now (file .entry)))) room)
+        × Hints (traceOf (now (file .entry))) (now (counts .exit)) ⌝ }
 {
-    if race_rows::pair_count(file) <= room {
+    if pair_count::pair_count(file) <= room {
         return 0;
     }
-    let count = count_races(file, table);
+    let count = count_races(file, table, counts);
     if room < count as usize {
         return count;
     }
@@ -222,14 +195,15 @@ fn list_if_room(
         (now (higher .entry)) r (now (lower .exit)) (now (higher .exit)) ⌝ }
 {
     let room = shorter_of(lower.len(), higher.len());
-    let refused = too_many(file, table, room);
+    let mut counts = [1u16; 1024];
+    let refused = too_many(file, table, room, &mut counts);
     if 0 < refused {
         return RacesAnswer::Refused {
             number: 16,
             place: refused,
         };
     }
-    let count = write_rows(file, table, lower, higher);
+    let count = write_rows(file, table, &counts, lower, higher);
     RacesAnswer::Listed {
         workers: workers,
         operations: operations,

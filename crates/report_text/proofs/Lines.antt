@@ -2,7 +2,7 @@
 use native.Mathlib.Omega.{arith}
 use Prim.Native.Nat.{ℕ, _<_, _≤_}
 use lib.ListN.{length}
-use Rattle.race_search.specs.RaceList.{pair}
+use Rattle.race_model.specs.RaceList.{pair}
 use Rattle.text.specs.Ascii.{ascii}
 use Rattle.text.proofs.LineLengths.{pair-line-length, count-line-length}
 use Rattle.report_text.specs.ReportText.{countsLine, raceLine, racesLine, refusal}

@@ -6,8 +6,8 @@ use native.Mathlib.Numerals.{add-one}
 use native.Mathlib.Omega.{arith}
 use Prim.Native.Nat.{ℕ, zero, suc, _+_, _*_, _<_, _≤_}
 use lib.ListN.{length, getD, take, length-append}
-use Rattle.race_search.specs.declared.Race.{Race}
-use Rattle.race_search.specs.RaceList.{pair}
+use Rattle.race_model.specs.declared.Race.{Race}
+use Rattle.race_model.specs.RaceList.{pair}
 use Rattle.races.specs.Races.{raceRecords}
 use Rattle.text.specs.Placed.{Placed}
 use Rattle.text.proofs.Placing.{placed-none, placed-then, placed-length}

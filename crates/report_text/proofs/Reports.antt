@@ -7,7 +7,7 @@ use Prim.Native.Nat.{ℕ, _≤_}
 use lib.ListN.{length, take, replicate, length-append, length-replicate}
 use Rattle.trace.specs.Reading.{Reading, refused, reads}
 use Rattle.trace.specs.Trace.{Trace}
-use Rattle.race_search.specs.RaceList.{raceList, raceCount}
+use Rattle.race_model.specs.RaceList.{raceList, raceCount}
 use Rattle.lent.proofs.Writing.{written-length}
 use Rattle.races.specs.declared.RacesAnswer.{RacesAnswer}
 use Rattle.races.specs.Races.{racesReading, racesAnswer, raceRecords, toWrite, shorter, RacesCall}

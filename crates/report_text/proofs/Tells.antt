@@ -6,7 +6,7 @@ use Prim.Native.Nat.{ℕ}
 use lib.ListN.{getD}
 use Rattle.trace.specs.Reading.{refused}
 use Rattle.trace.proofs.Outcomes.{TellsRefusals}
-use Rattle.race_search.specs.declared.Race.{Race}
+use Rattle.race_model.specs.declared.Race.{Race}
 use Rattle.text.specs.Ascii.{ascii}
 use Rattle.text.specs.Lines.{labelled, pairLine}
 use Rattle.text.proofs.ReadBack.{pair-line-numbers}

@@ -4,7 +4,7 @@
 use mathlib.Core.List.{List}
 use Prim.Native.Nat.{ℕ, _+_, _*_, _≤_}
 use lib.ListN.{length, take}
-use Rattle.race_search.specs.declared.Race.{Race}
+use Rattle.race_model.specs.declared.Race.{Race}
 use Rattle.races.specs.declared.RacesAnswer.{RacesAnswer}
 use Rattle.races.specs.declared.RacesAnswer.the-variants.{Listed, Refused}
 use Rattle.report_text.specs.ReportText.{listing, refusal}

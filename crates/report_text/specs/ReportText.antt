@@ -8,8 +8,8 @@ use lib.ListN.{length}
 use Rattle.trace.specs.Reading.{Reading, refused, reads}
 use Rattle.trace.specs.Trace.{size}
 use Rattle.lent.specs.Written.{writtenOver}
-use Rattle.race_search.specs.declared.Race.{Race}
-use Rattle.race_search.specs.RaceList.{pair, raceList, raceCount}
+use Rattle.race_model.specs.declared.Race.{Race}
+use Rattle.race_model.specs.RaceList.{pair, raceList, raceCount}
 use Rattle.races.specs.Races.{racesReading}
 use Rattle.text.specs.Ascii.{ascii}
 use Rattle.text.specs.Decimal.{decimalWithin, decimal}

@@ -1,7 +1,7 @@
 // The report of a file, as text in a lent output.
 ghost use Prim.Native.Nat.{_+_, _*_, _≤_};
 ghost use lib.ListN.{length, take};
-ghost use Rattle.race_search.specs.RaceList.{pair};
+ghost use Rattle.race_model.specs.RaceList.{pair};
 ghost use Rattle.races.specs.Races.{raceRecords, toWrite};
 ghost use Rattle.text.specs.Placed.{Placed};
 ghost use Rattle.report_text.specs.Premises.{RaceRoom, ListingRoom, answerText};

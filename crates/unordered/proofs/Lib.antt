@@ -7,3 +7,4 @@ pub mod Turns
 pub mod Entries
 pub mod Loops
 pub mod Results
+pub mod Beginning

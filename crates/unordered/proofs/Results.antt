@@ -18,7 +18,7 @@ use Rattle.unordered.proofs.Ends.{of-few}
 use Rattle.unordered.proofs.Entries.{place-given}
 use Rattle.unordered.proofs.Order.{Given, certain-own}
 
-and-false : (b : Bool) → b && false ≡ false
+pub and-false : (b : Bool) → b && false ≡ false
 and-false true = refl
 and-false false = refl
 

@@ -64,9 +64,10 @@ module _ {t : Trace} (g : Given t) {a w q : ℕ} (turn : IsOf t w a) (few : q < 
       sets {r} {b} v i o = elim (equal? v w) [
         | inl z ↦ rw z (here r b o)
         | inr z ↦
+            let r-few : r < 16 = omega (arith, g .most, of-few g o) in
             rw (
-              m .low v r (omega (arith, g .most)) (omega (arith, g .most, of-few g o)) (λ y. z (omega (arith, y, g .most, of-few g o))),
-              m .high v r (omega (arith, g .most)) (omega (arith, g .most, of-few g o)) (λ y. z (omega (arith, y, g .most, of-few g o))),
+              m .low v r (omega (arith, g .most)) r-few (λ y. z (omega (arith, y, g .most))),
+              m .high v r (omega (arith, g .most)) r-few (λ y. z (omega (arith, y, g .most))),
             )
             (m .sets v b z (omega (arith, g .most)) (omega (arith, g .few, o .below)) ∙ s .state .sets v i o)
       ]

@@ -2,3 +2,4 @@
 -- Turns: what the functions that carry a set on know.
 pub mod Kept
 pub mod Turns
+pub mod Beginning

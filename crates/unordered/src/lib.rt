@@ -1,14 +1,70 @@
 // The operations that are unordered with a worker's operation, kept as bits along that worker. Of another worker q they
-// are those from a low end to a high one, and both ends only move up. The 32 words from 32 * w on hold the set of worker
-// w, word 512 + 16 * w + q its high end for q, and word 768 + 16 * w + q its low one.
+// are those from a low end to a high one, and both ends only move up. The 32 words from 32 * w on hold the set of
+// worker w, word 512 + 16 * w + q its high end for q, and word 768 + 16 * w + q its low one.
 ghost use mathlib.Core.Path.{_≡_};
 ghost use Prim.Native.Nat.{_+_, _*_, _<_};
-ghost use lib.ListN.{getD};
-ghost use Rattle.trace.specs.Reading.{traceOf};
+ghost use lib.ListN.{length, getD};
+ghost use Rattle.trace.specs.Reading.{reads, fileReading, traceOf};
 ghost use Rattle.trace.specs.Trace.{size};
 ghost use Rattle.table_entries.specs.Entries.{HoldsTable, Inside};
+ghost use Rattle.unordered.specs.Beginning.{Zeros, NothingRead, ReadFrom, firstEnd, EndsSet};
 ghost use Rattle.unordered.specs.Kept.{HoldsNext, highOf, lowOf, Kept, Now};
 ghost use Rattle.unordered.specs.Turns.{rankAt, TwoWorkers, TakenOne, LetOne, Place, Ahead, Turn};
+
+// Reads the file from its end: the next operation of each operation's worker, and the first of each worker; 1024 where
+// there is none.
+fn read_next(file: &[u8], next: &mut [u32; 1024], firsts: &mut [u32; 16])
+    requires { ⌜ NothingRead (now file) (now next) (now firsts) ⌝ }
+    ensures { λ r. ⌜ HoldsNext (traceOf (now (file .entry))) (now (next .exit))
+        × ReadFrom (traceOf (now (file .entry))) 0 (now (next .exit)) (now (firsts .exit)) ⌝ }
+{
+    let mut left = trace::operation_count(file) as usize;
+    while 1 <= left {
+        let k = left - 1;
+        let q = basics::byte_index(trace::worker_of(file, k));
+        next[k] = firsts[q];
+        firsts[q] = k as u32;
+        left = k;
+    }
+}
+
+// Where both ends of pair i start.
+fn first_end(firsts: &[u32; 16], i: usize) -> u32
+    requires { ⌜ i < 256 ⌝ }
+    ensures { λ r. ⌜ r ≡ firstEnd (now (firsts .entry)) i ⌝ }
+{
+    if i / 16 == i % 16 {
+        return 1024;
+    }
+    firsts[i % 16]
+}
+
+// Sets all ends.
+fn set_ends(firsts: &[u32; 16], kept: &mut [u32; 1536])
+    requires { ⌜ Zeros (now kept) ⌝ }
+    ensures { λ r. ⌜ EndsSet (now (firsts .entry)) 256 (now (kept .exit)) ⌝ }
+{
+    let mut i: usize = 0;
+    while i < 256 {
+        let end = first_end(firsts, i);
+        kept[512 + i] = end;
+        kept[768 + i] = end;
+        i += 1;
+    }
+}
+
+// Reads the next operations, and sets all ends, in an array of zeros: all sets are empty.
+pub fn begin(file: &[u8], next: &mut [u32; 1024], kept: &mut [u32; 1536])
+    requires { ⌜ (fileReading (now file) ≡ reads (traceOf (now file)))
+        × (length (now next) ≡ 1024)
+        × Zeros (now kept) ⌝ }
+    ensures { λ r. ⌜ HoldsNext (traceOf (now (file .entry))) (now (next .exit))
+        × Kept (traceOf (now (file .entry))) 0 (now (kept .exit)) ⌝ }
+{
+    let mut firsts = [1024u32; 16];
+    read_next(file, next, &mut firsts);
+    set_ends(&firsts, kept);
+}
 
 // Entry q of row k.
 fn entry(table: &[u16], p: usize, k: usize, q: usize) -> u32

@@ -46,10 +46,10 @@ use denote.Triple.Table.{entered, cited}
 use denote.Triple.Walked.{says, Stays, stay-slice, gave-slice, stay-none-slice, walkOf}
 use denote.Triple.Walked.{goes-slice, goes-gave-slice, goes-none-slice, Walks, ends-at, walked, walk-meets}
 use Rattle.trace.specs.Reading.{traceOf}
-use Rattle.race_search.specs.declared.Race.{Race}
+use Rattle.race_model.specs.declared.Race.{Race}
 use Rattle.races.specs.declared.RacesAnswer.{RacesAnswer}
 use Rattle.races.specs.Races.{toWrite, CountCall}
-use Rattle.race_search.proofs.Race as T
+use Rattle.race_model.proofs.Race as T
 use Rattle.races.proofs.RacesAnswer as S
 use Rattle.races.proofs.RacesAnswer.Laws as S′
 use Rattle.races.proofs.fill_and_count as p

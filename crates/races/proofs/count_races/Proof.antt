@@ -1,92 +1,69 @@
--- `count_races` meets its contract. The invariant: the races whose lower operation is below a are counted.
--- Assumes nothing.
-use native.Mathlib.Omega.{arith}
-use Prim.Native.Nat.{_-_}
-use borrow.Author.Needs.{needs}
-use Rattle.trace.specs.Reading.{traceOf}
-use Rattle.race_search.proofs.TableEntries.{table-reads, table-short}
-use Rattle.races.proofs.PairWriting.{row-of, Counted, count-none, count-more, count-all}
 use Rattle.races.proofs.count_races.Statement.{statement}
 use Rattle.races.proofs.count_races.Tie as tie
+use Rattle.races.proofs.count_races.Reads as reads
+use Rattle.races.proofs.count_races.Lts as lts
+use Rattle.race_rows.proofs.count_row.Reads as count-row-reads
+use Rattle.trace.proofs.operation_count.Reads as operation-count-reads
 
 abbrev Inv-loop : tie.InvT-loop
-Inv-loop file table n first last writes workers own marks₀ row₀ count₀ a₀ marks row count a =
-    Counted (traceOf file) a count marks row
+Inv-loop file table counts₀ n cells₀ next₀ kept₀ seen₀ count₀ a₀ counts cells next kept seen count a =
+    ?
 
 abbrev μ-loop : tie.MeasureT-loop
-μ-loop file table n first last writes workers own marks₀ row₀ count₀ a₀ marks row count a = n - a
+μ-loop file table counts₀ n cells₀ next₀ kept₀ seen₀ count₀ a₀ counts cells next kept seen count a =
+    ?
 
+-- src/lib.rt:31:13
 operation-count-requires : tie.Need-operation-count-requires Inv-loop μ-loop
-operation-count-requires c κs =
-    let c2 = c .before .before in
-    table-reads (c2 .pre)
+operation-count-requires c κs = ?
 
+-- src/lib.rt:31:13
 cast-n : tie.Need-cast-n Inv-loop μ-loop
-cast-n c = search needs
+cast-n c = ?
 
-read-cells-requires : tie.Need-read-cells-requires Inv-loop μ-loop
-read-cells-requires c κs =
-    let c6 = c .before .before .before .before .before .before in
-    record {
-      trace = table-reads (c6 .pre);
-      first-long = search needs;
-      last-long = search needs;
-      writes-long = search needs;
-    }
-
-read-places-requires : tie.Need-read-places-requires Inv-loop μ-loop
-read-places-requires c κs =
-    let c9 = c .before .before .before .before .before .before .before .before .before in
-    record { holds = c9 .pre; workers-long = search needs; own-long = search needs }
-
+-- src/lib.rt:38:5
 loop-holds : tie.Need-loop-holds Inv-loop μ-loop
-loop-holds c = count-none _ (search needs) (search needs)
+loop-holds c = ?
 
-list-row-requires : tie.Need-list-row-requires Inv-loop μ-loop
-list-row-requires c κs =
-    let c7 = c .before .before .before .before .before .before .before in
-    let c8 = c7 .before in
-    let c9 = c8 .before in
-    let c12 = c9 .before .before .before in
-    let c16 = c12 .before .before .before .before in
-    let c19 = c16 .before .before .before in
-    let e = c16 .operation-count .ensures in
-    let (cells, table) =
-    row-of {a = c8 .loop .a} (c19 .pre) (c12 .read-cells .ensures) (c9 .read-places .ensures)
-    (omega (arith, e, c7 .loop-test .taken)) in
-    (cells, table, c8 .loop .inv .marks-long, c8 .loop .inv .row-long)
+-- src/lib.rt:39:13
+count-row-requires : tie.Need-count-row-requires Inv-loop μ-loop
+count-row-requires c κs = ?
 
+-- src/lib.rt:48:21
+cast-counts : tie.Need-cast-counts Inv-loop μ-loop
+cast-counts c = ?
+
+-- src/lib.rt:48:9
+mul-counts : tie.Need-mul-counts Inv-loop μ-loop
+mul-counts c = ?
+
+-- src/lib.rt:48:9
+element-write-counts : tie.Need-element-write-counts Inv-loop μ-loop
+element-write-counts c = ?
+
+-- src/lib.rt:49:9
 add-count : tie.Need-add-count Inv-loop μ-loop
-add-count c =
-    let c9 = c .before .before .before .before .before .before .before .before .before in
-    let c20 = c9 .before .before .before .before .before .before .before .before .before .before .before in
-    omega (arith, c9 .loop .inv .few, c9 .loop .inv .below, c .list-row .ensures .0 .few, table-short (c20 .pre))
+add-count c = ?
 
+-- src/lib.rt:50:9
 add-a : tie.Need-add-a Inv-loop μ-loop
-add-a c = search needs
+add-a c = ?
 
+-- src/lib.rt:38:5
 loop-less : tie.Need-loop-less Inv-loop μ-loop
-loop-less c = search needs
+loop-less c = ?
 
+-- src/lib.rt:38:5
 loop-again : tie.Need-loop-again Inv-loop μ-loop
-loop-again c =
-    let c8 = c .before .before .before .before .before .before .before .before in
-    let c9 = c8 .before in
-    let c17 = c9 .before .before .before .before .before .before .before .before in
-    count-more (c9 .loop .inv) (omega (arith, c17 .operation-count .ensures, c8 .loop-test .taken))
-    (c .list-row .ensures)
+loop-again c = ?
 
+-- src/lib.rt:52:5
 cast-result : tie.Need-cast-result Inv-loop μ-loop
-cast-result c =
-    let c1 = c .before in
-    let c12 = c1 .before .before .before .before .before .before .before .before .before .before .before in
-    omega (arith, c1 .loop .inv .few, c1 .loop .inv .below, table-short (c12 .pre))
+cast-result c = ?
 
+-- src/lib.rt:27:1
 returns : tie.Need-returns Inv-loop μ-loop
-returns c =
-    let c1 = c .before in
-    let c9 = c1 .before .before .before .before .before .before .before .before in
-    count-all (c1 .loop .inv) (omega (arith, c9 .operation-count .ensures, c .loop-test .left))
+returns c = ?
 
 pub count-races-spec : {M : Type 1} → statement M
 count-races-spec =
@@ -96,10 +73,11 @@ count-races-spec =
     μ-loop
     operation-count-requires
     cast-n
-    read-cells-requires
-    read-places-requires
     loop-holds
-    list-row-requires
+    count-row-requires
+    cast-counts
+    mul-counts
+    element-write-counts
     add-count
     add-a
     loop-less

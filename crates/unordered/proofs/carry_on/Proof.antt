@@ -11,7 +11,8 @@ use Rattle.unordered.proofs.carry_on.Statement.{statement}
 use Rattle.unordered.proofs.carry_on.Tie as tie
 
 abbrev Inv-loop : tie.InvT-loop
-Inv-loop file table next a kept₀ p n w q₀ kept q = Place file table next p n a w × (q ≤ p) × Turn (traceOf file) a w q kept
+Inv-loop file table next a kept₀ p n w q₀ kept q =
+    Place file table next p n a w × (q ≤ p) × Turn (traceOf file) a w q kept
 
 abbrev μ-loop : tie.MeasureT-loop
 μ-loop file table next a kept₀ p n w q₀ kept q = p - q

@@ -9,7 +9,8 @@ use Rattle.unordered.proofs.let_out.Statement.{statement}
 use Rattle.unordered.proofs.let_out.Tie as tie
 
 abbrev Inv-loop : tie.InvT-loop
-Inv-loop file table next p n a w q kept₀ bound high k₀ gone₀ kept k gone = LettingOut (traceOf file) table p a w q kept high k gone
+Inv-loop file table next p n a w q kept₀ bound high k₀ gone₀ kept k gone =
+    LettingOut (traceOf file) table p a w q kept high k gone
 
 abbrev μ-loop : tie.MeasureT-loop
 μ-loop file table next p n a w q kept₀ bound high k₀ gone₀ kept k gone = 1024 - k
@@ -89,10 +90,8 @@ loop-less c =
     let c6 = c5 .before in
     let c12 = c6 .before .before .before .before .before .before in
     let c15 = c12 .before .before .before in
-    omega (
-      arith,
-      out-ahead (c15 .pre .0) (c15 .pre .1) (c6 .loop .inv) (c12 .entry .ensures .1) (c5 .loop-test .taken) (c1 .wide-index .ensures .0),
-    )
+    let next = c1 .wide-index .ensures .0 in
+    omega (arith, out-ahead (c15 .pre .0) (c15 .pre .1) (c6 .loop .inv) (c12 .entry .ensures .1) (c5 .loop-test .taken) next)
 
 loop-again : tie.Need-loop-again Inv-loop μ-loop
 loop-again c =

@@ -74,10 +74,8 @@ loop-less c =
     let c6 = c5 .before in
     let c10 = c6 .before .before .before .before in
     let c13 = c10 .before .before .before in
-    omega (
-      arith,
-      in-ahead (c13 .pre .0) (c13 .pre .1) (c6 .loop .inv) (c10 .entry .ensures .1) (c5 .loop-test .taken) (c1 .wide-index .ensures .0),
-    )
+    let next = c1 .wide-index .ensures .0 in
+    omega (arith, in-ahead (c13 .pre .0) (c13 .pre .1) (c6 .loop .inv) (c10 .entry .ensures .1) (c5 .loop-test .taken) next)
 
 loop-again : tie.Need-loop-again Inv-loop μ-loop
 loop-again c =

@@ -3,10 +3,10 @@ use native.Mathlib.Omega.{arith}
 use Prim.Native.Nat.{_-_}
 use lib.ListN.{replicate}
 use borrow.Author.Needs.{needs}
-use Rattle.races.proofs.PairWriting.{Pasted, pasted-none, pasted-size, pasted-more, pasted-all, filled-long}
-use Rattle.races.proofs.PairWriting.{filled-at}
-use Rattle.races.proofs.fill.Statement.{statement}
-use Rattle.races.proofs.fill.Tie as tie
+use Rattle.list_writer.proofs.Pasting.{Pasted, pasted-none, pasted-size, pasted-more, pasted-all, filled-long}
+use Rattle.list_writer.proofs.Pasting.{filled-at}
+use Rattle.list_writer.proofs.fill.Statement.{statement}
+use Rattle.list_writer.proofs.fill.Tie as tie
 
 abbrev Inv-loop : tie.InvT-loop
 Inv-loop list₀ at count x i₀ list i = Pasted list₀ at (replicate count x) count i list

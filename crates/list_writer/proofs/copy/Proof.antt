@@ -3,9 +3,9 @@ use mathlib.Core.Path.{refl}
 use native.Mathlib.Omega.{arith}
 use Prim.Native.Nat.{_-_}
 use borrow.Author.Needs.{needs}
-use Rattle.races.proofs.PairWriting.{Pasted, pasted-none, pasted-size, pasted-more, pasted-all}
-use Rattle.races.proofs.copy.Statement.{statement}
-use Rattle.races.proofs.copy.Tie as tie
+use Rattle.list_writer.proofs.Pasting.{Pasted, pasted-none, pasted-size, pasted-more, pasted-all}
+use Rattle.list_writer.proofs.copy.Statement.{statement}
+use Rattle.list_writer.proofs.copy.Tie as tie
 
 abbrev Inv-loop : tie.InvT-loop
 Inv-loop list₀ at count row i₀ list i = Pasted list₀ at row count i list

@@ -1,0 +1,1 @@
+-- Nothing of its own: the contracts speak of `paste`, of the library.
