@@ -5,8 +5,9 @@ use mathlib.Core.Logic.{_⊎_, inl, inr}
 use mathlib.Core.Path.{_≡_, refl, sym, ap, _∙_}
 use native.Mathlib.Omega.{arith}
 use Prim.Native.Nat.{ℕ, zero, suc, _+_, _*_, _/_, _%_, _<_, _≤_}
-use lib.ListN.{length, getD}
+use lib.ListN.{length, getD, replicate, length-replicate}
 use borrow.Author.Tests.{le-ltb}
+use Rattle.basics.proofs.Bits.{zeros}
 use Rattle.basics.proofs.Booleans.{equal?, less?}
 use Rattle.trace.specs.Trace.{Trace, size, workerOf}
 use Rattle.words.specs.Words.{isIn, Joined}
@@ -168,8 +169,15 @@ begun-on a s =
       searching = λ l. s;
     }
 
-pub rows-start : {bytes table cells next kept seen row : List ℕ} → HoldsTable bytes table → length cells ≡ 2080
-    → length next ≡ 1024 → Zeros kept → length seen ≡ 1120 → length row ≡ 1024
-    → RowsAt bytes table 0 cells next kept seen row
-rows-start h c n k s r =
-    record { counts-at = record { holds = h; begun = begun-start c n k s }; row-long = r }
+-- arrays of zeros
+pub zeros-kept : Zeros (replicate 1536 0)
+zeros-kept = record { long = length-replicate {A = ℕ} 1536 0; each = zeros 1536 }
+
+pub counts-start : {bytes table cells next seen : List ℕ} → HoldsTable bytes table → length cells ≡ 2080
+    → length next ≡ 1024 → length seen ≡ 1120 → CountsAt bytes table 0 cells next (replicate 1536 0) seen
+counts-start h c n s = record { holds = h; begun = begun-start c n zeros-kept s }
+
+pub rows-start : {bytes table cells next seen row : List ℕ} → HoldsTable bytes table → length cells ≡ 2080
+    → length next ≡ 1024 → length seen ≡ 1120 → length row ≡ 1024
+    → RowsAt bytes table 0 cells next (replicate 1536 0) seen row
+rows-start h c n s r = record { counts-at = counts-start h c n s; row-long = r }

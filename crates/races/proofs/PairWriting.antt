@@ -1,24 +1,40 @@
 -- Counting races and writing them to two lists, row by row. In order: counting; writing; the end.
 use mathlib.Core.List.{List, [], _∷_, _++_, map, map-append, append-assoc}
+use mathlib.Core.Logic.{inl, inr}
 use mathlib.Core.Path.{_≡_, refl, sym, ap, _∙_}
+use native.Mathlib.Nat.{mul-le-mul}
 use native.Mathlib.Numerals.{add-one}
 use native.Mathlib.Omega.{arith}
 use Prim.Native.Nat.{ℕ, suc, _+_, _*_, _<_, _≤_}
 use lib.ListN.{length, getD, set, take, replicate, length-set, length-map, length-replicate, getD-replicate}
 use lib.Seq.{paste, drop-drop, take-all, getD-set-same, getD-set-other}
 use Rattle.basics.proofs.Booleans.{equal?}
+use Rattle.trace.specs.Reading.{traceOf}
 use Rattle.trace.specs.Trace.{Trace, size}
 use Rattle.lent.proofs.Writing.{Written, written-none, written-part}
 use Rattle.race_model.specs.declared.Race.{Race}
 use Rattle.words.proofs.Passing.{passing-few}
+use Rattle.table_entries.specs.Entries.{HoldsTable}
+use Rattle.table_entries.proofs.TableEntries.{table-short}
 use Rattle.race_model.specs.RaceList.{isRace, pair, racesBelow, raceList, raceCount}
 use Rattle.race_model.specs.RaceRows.{raceRow, RowHolds}
+use Rattle.race_model.proofs.RaceLists.{list-few}
 use Rattle.race_model.proofs.RowLists.{row-count, below-start, below-next, below-count, below-few}
 use Rattle.race_model.proofs.RowLists.{below-all}
 use Rattle.races.specs.Premises.{Hints, AllWritten}
 use Rattle.races.specs.Races.{lowers, highers}
 
 -- ---- counting
+
+-- there are at most 1,024 × 1,024 races
+pub table-few : {bytes table : List ℕ} → HoldsTable bytes table → raceCount (traceOf bytes) ≤ 1048576
+table-few {bytes} h =
+    let few = table-short h in
+    let square = mul-le-mul {n₂ = 1024} {m₂ = 1024} few few in
+    omega (arith, square, list-few (traceOf bytes))
+
+pub row-few : (t : Trace) (a : ℕ) → length (raceRow t a) ≤ size t
+row-few t a = passing-few (isRace t a) (size t)
 
 -- the races whose lower operation is below a are counted, and noted
 pub record Counted (t : Trace) (a count : ℕ) (counts : List ℕ) : Type 0 where
@@ -44,7 +60,7 @@ module _ {t : Trace} {a count : ℕ} {counts : List ℕ} (c : Counted t a count 
   count-more {more} s l e =
       record {
         below = omega arith;
-        few = omega (arith, c .few, e, passing-few (isRace t a) (size t));
+        few = omega (arith, c .few, e, row-few t a);
         sum = rw add-one (omega (arith, c .sum, below-count t a, e));
         long = simp length-set (c .long);
         noted = noted;
@@ -72,8 +88,8 @@ module _ {t : Trace} {a count : ℕ} {counts : List ℕ} (c : Counted t a count 
 pub hints-none : (t : Trace) → size t ≤ 1024 → Hints t (replicate 1024 1)
 hints-none t s =
     record {
-      long = length-replicate 1024 1;
-      none = λ a l e. absurd (omega (arith, e, getD-replicate 1024 a 1 0 (omega arith)));
+      long = length-replicate {A = ℕ} 1024 1;
+      none = λ a l e. absurd (omega (arith, e, getD-replicate {A = ℕ} 1024 a 1 0 (omega arith)));
     }
 
 -- ---- writing

@@ -1,69 +1,96 @@
+-- `count_races` meets its contract. The invariant: the races whose lower operation is below a are counted.
+-- Assumes nothing.
+use native.Mathlib.Omega.{arith}
+use Prim.Native.Nat.{_-_}
+use borrow.Author.Needs.{needs}
+use Rattle.trace.specs.Reading.{traceOf}
+use Rattle.table_entries.proofs.TableEntries.{table-reads, table-short}
+use Rattle.race_rows.specs.Rows.{CountsAt}
+use Rattle.race_rows.proofs.RowNotes.{counts-start}
+use Rattle.races.proofs.PairWriting.{row-few, Counted, count-none, count-more, count-all}
 use Rattle.races.proofs.count_races.Statement.{statement}
 use Rattle.races.proofs.count_races.Tie as tie
-use Rattle.races.proofs.count_races.Reads as reads
-use Rattle.races.proofs.count_races.Lts as lts
-use Rattle.race_rows.proofs.count_row.Reads as count-row-reads
-use Rattle.trace.proofs.operation_count.Reads as operation-count-reads
 
 abbrev Inv-loop : tie.InvT-loop
 Inv-loop file table counts₀ n cells₀ next₀ kept₀ seen₀ count₀ a₀ counts cells next kept seen count a =
-    ?
+    Counted (traceOf file) a count counts × CountsAt file table a cells next kept seen
 
 abbrev μ-loop : tie.MeasureT-loop
 μ-loop file table counts₀ n cells₀ next₀ kept₀ seen₀ count₀ a₀ counts cells next kept seen count a =
-    ?
+    n - a
 
--- src/lib.rt:31:13
 operation-count-requires : tie.Need-operation-count-requires Inv-loop μ-loop
-operation-count-requires c κs = ?
+operation-count-requires c κs = table-reads (c .before .before .pre .0)
 
--- src/lib.rt:31:13
 cast-n : tie.Need-cast-n Inv-loop μ-loop
-cast-n c = ?
+cast-n c = search needs
 
--- src/lib.rt:38:5
 loop-holds : tie.Need-loop-holds Inv-loop μ-loop
-loop-holds c = ?
+loop-holds c =
+    let pre = c .before .before .before .pre in
+    (count-none _ (pre .1), counts-start (pre .0) (search needs) (search needs) (search needs))
 
--- src/lib.rt:39:13
 count-row-requires : tie.Need-count-row-requires Inv-loop μ-loop
-count-row-requires c κs = ?
+count-row-requires c κs =
+    let c4 = c .before .before .before .before in
+    let c5 = c4 .before in
+    (c5 .loop .inv .1, omega (arith, c4 .loop-test .taken, c5 .before .operation-count .ensures))
 
--- src/lib.rt:48:21
 cast-counts : tie.Need-cast-counts Inv-loop μ-loop
-cast-counts c = ?
+cast-counts c =
+    let c6 = c .before .before .before .before .before .before in
+    let start = c6 .before .before .before .before in
+    let few = row-few (traceOf (start .args .file .now)) (c6 .loop .a) in
+    omega (arith, c .count-row .ensures .0, table-short (start .pre .0), few)
 
--- src/lib.rt:48:9
 mul-counts : tie.Need-mul-counts Inv-loop μ-loop
-mul-counts c = ?
+mul-counts c =
+    let c5 = c .before .before .before .before .before in
+    let c7 = c5 .before .before in
+    omega (arith, c5 .loop-test .taken, c7 .operation-count .ensures, table-short (c7 .before .before .before .pre .0))
 
--- src/lib.rt:48:9
 element-write-counts : tie.Need-element-write-counts Inv-loop μ-loop
-element-write-counts c = ?
+element-write-counts c =
+    let c5 = c .before .before .before .before .before in
+    let c7 = c5 .before .before in
+    omega (arith, c5 .loop-test .taken, c7 .operation-count .ensures, table-short (c7 .before .before .before .pre .0))
 
--- src/lib.rt:49:9
 add-count : tie.Need-add-count Inv-loop μ-loop
-add-count c = ?
+add-count c =
+    let c6 = c .before .before .before .before .before .before in
+    let start = c6 .before .before .before .before in
+    let few = row-few (traceOf (start .args .file .now)) (c6 .loop .a) in
+    let inv = c6 .loop .inv .0 in
+    omega (arith, inv .few, inv .below, c .count-row .ensures .0, table-short (start .pre .0), few)
 
--- src/lib.rt:50:9
 add-a : tie.Need-add-a Inv-loop μ-loop
-add-a c = ?
+add-a c = search needs
 
--- src/lib.rt:38:5
 loop-less : tie.Need-loop-less Inv-loop μ-loop
-loop-less c = ?
+loop-less c = search needs
 
--- src/lib.rt:38:5
 loop-again : tie.Need-loop-again Inv-loop μ-loop
-loop-again c = ?
+loop-again c =
+    let c5 = c .before .before .before .before .before in
+    let c6 = c5 .before in
+    let c7 = c6 .before in
+    let few = table-short (c7 .before .before .before .pre .0) in
+    (
+      count-more (c6 .loop .inv .0) few (omega (arith, c5 .loop-test .taken, c7 .operation-count .ensures))
+      (c .count-row .ensures .0),
+      c .count-row .ensures .1,
+    )
 
--- src/lib.rt:52:5
 cast-result : tie.Need-cast-result Inv-loop μ-loop
-cast-result c = ?
+cast-result c =
+    let c1 = c .before in
+    let few = table-short (c1 .before .before .before .before .pre .0) in
+    omega (arith, c1 .loop .inv .0 .few, c1 .loop .inv .0 .below, few)
 
--- src/lib.rt:27:1
 returns : tie.Need-returns Inv-loop μ-loop
-returns c = ?
+returns c =
+    let c1 = c .before in
+    count-all (c1 .loop .inv .0) (omega (arith, c1 .before .operation-count .ensures, c .loop-test .left))
 
 pub count-races-spec : {M : Type 1} → statement M
 count-races-spec =

@@ -1,87 +1,135 @@
+-- `write_rows` meets its contract. The invariant: the races whose lower operation is below a are written.
+-- Assumes nothing.
+use native.Mathlib.Omega.{arith}
+use Prim.Native.Nat.{_-_, _<_}
+use borrow.Author.Needs.{needs}
+use Rattle.trace.specs.Reading.{traceOf}
+use Rattle.trace.specs.Trace.{size}
+use Rattle.table_entries.proofs.TableEntries.{table-reads, table-short}
+use Rattle.race_rows.specs.Rows.{RowsAt}
+use Rattle.race_rows.proofs.RowNotes.{rows-start}
+use Rattle.races.proofs.PairWriting.{table-few, RowsWritten, rows-none, rows-room, rows-more, rows-all}
 use Rattle.races.proofs.write_rows.Statement.{statement}
 use Rattle.races.proofs.write_rows.Tie as tie
-use Rattle.races.proofs.write_rows.Reads as reads
-use Rattle.races.proofs.write_rows.Lts as lts
-use Rattle.list_writer.proofs.copy.Reads as copy-reads
-use Rattle.list_writer.proofs.fill.Reads as fill-reads
-use Rattle.race_rows.proofs.list_row_if.Reads as list-row-if-reads
-use Rattle.trace.proofs.operation_count.Reads as operation-count-reads
 
 abbrev Inv-loop : tie.InvT-loop
 Inv-loop file table counts lower₀ higher₀ n cells₀ next₀ kept₀ seen₀ row₀ at₀ a₀ lower higher cells next kept seen row at a =
-    ?
+    RowsWritten (traceOf file) a at lower₀ lower higher₀ higher × RowsAt file table a cells next kept seen row
 
 abbrev μ-loop : tie.MeasureT-loop
 μ-loop file table counts lower₀ higher₀ n cells₀ next₀ kept₀ seen₀ row₀ at₀ a₀ lower higher cells next kept seen row at a =
-    ?
+    n - a
 
--- src/lib.rt:130:13
 operation-count-requires : tie.Need-operation-count-requires Inv-loop μ-loop
-operation-count-requires c κs = ?
+operation-count-requires c κs = table-reads (c .before .before .before .before .pre .0)
 
--- src/lib.rt:130:13
 cast-n : tie.Need-cast-n Inv-loop μ-loop
-cast-n c = ?
+cast-n c = search needs
 
--- src/lib.rt:138:5
 loop-holds : tie.Need-loop-holds Inv-loop μ-loop
-loop-holds c = ?
+loop-holds c =
+    let pre = c .before .before .before .before .before .pre in
+    (rows-none _ _ _, rows-start (pre .0) (search needs) (search needs) (search needs) (search needs))
 
--- src/lib.rt:143:13
 mul-list-row-if : tie.Need-mul-list-row-if Inv-loop μ-loop
-mul-list-row-if c = ?
+mul-list-row-if c =
+    let c2 = c .before .before in
+    omega (arith, c .loop-test .taken, c2 .operation-count .ensures, table-short (c2 .before .before .before .before .before .pre .0))
 
--- src/lib.rt:143:13
 element-copy-out-list-row-if : tie.Need-element-copy-out-list-row-if Inv-loop μ-loop
-element-copy-out-list-row-if c = ?
+element-copy-out-list-row-if c =
+    let c2 = c .before .before in
+    omega (arith, c .loop-test .taken, c2 .operation-count .ensures, table-short (c2 .before .before .before .before .before .pre .0))
 
--- src/lib.rt:139:13
 list-row-if-requires : tie.Need-list-row-if-requires Inv-loop μ-loop
-list-row-if-requires c κs = ?
+list-row-if-requires c κs =
+    let c6 = c .before .before .before .before .before .before in
+    let c7 = c6 .before in
+    let c8 = c7 .before in
+    let start = c8 .before .before .before .before .before in
+    let below : c7 .loop .a < size (traceOf (start .args .file .now))
+    = omega (arith, c6 .loop-test .taken, c8 .operation-count .ensures) in
+    (c7 .loop .inv .1, below, λ e. start .pre .1 .none (c7 .loop .a) below e)
 
--- src/lib.rt:150:45
 cast-fill : tie.Need-cast-fill Inv-loop μ-loop
-cast-fill c = ?
+cast-fill c =
+    let c8 = c .before .before .before .before .before .before .before .before in
+    let c10 = c8 .before .before in
+    omega (arith, table-short (c10 .before .before .before .before .before .pre .0), c10 .operation-count .ensures, c8 .loop-test .taken)
 
--- src/lib.rt:150:9
 fill-requires : tie.Need-fill-requires Inv-loop μ-loop
-fill-requires c κs = ?
+fill-requires c κs =
+    let c1 = c .before in
+    let c8 = c1 .before .before .before .before .before .before .before in
+    let c9 = c8 .before in
+    let c10 = c9 .before in
+    let e = c10 .operation-count .ensures in
+    let inv = c9 .loop .inv .0 in
+    let room = rows-room inv (omega (arith, e, c8 .loop-test .taken)) (c1 .list-row-if .ensures .0) in
+    omega (arith, room, c10 .before .before .before .before .before .pre .2, inv .low .size)
 
--- src/lib.rt:151:9
 copy-requires : tie.Need-copy-requires Inv-loop μ-loop
-copy-requires c κs = ?
+copy-requires c κs =
+    let c6 = c .before .before .before .before .before .before in
+    let c13 = c6 .before .before .before .before .before .before .before in
+    let c14 = c13 .before in
+    let c15 = c14 .before in
+    let e = c15 .operation-count .ensures in
+    let inv = c14 .loop .inv .0 in
+    let listed = c6 .list-row-if .ensures .0 in
+    let room = rows-room inv (omega (arith, e, c13 .loop-test .taken)) listed in
+    (omega (arith, room, c15 .before .before .before .before .before .pre .3, inv .high .size), listed .few, listed .long)
 
--- src/lib.rt:152:9
 add-at : tie.Need-add-at Inv-loop μ-loop
-add-at c = ?
+add-at c =
+    let c9 = c .before .before .before .before .before .before .before .before .before in
+    let c16 = c9 .before .before .before .before .before .before .before in
+    let c17 = c16 .before in
+    let c18 = c17 .before in
+    let e = c18 .operation-count .ensures in
+    let listed = c9 .list-row-if .ensures .0 in
+    let room = rows-room (c17 .loop .inv .0) (omega (arith, e, c16 .loop-test .taken)) listed in
+    omega (arith, room, table-few (c18 .before .before .before .before .before .pre .0))
 
--- src/lib.rt:153:9
 add-a : tie.Need-add-a Inv-loop μ-loop
-add-a c = ?
+add-a c = search needs
 
--- src/lib.rt:138:5
 loop-less : tie.Need-loop-less Inv-loop μ-loop
-loop-less c = ?
+loop-less c = search needs
 
--- src/lib.rt:138:5
 loop-again : tie.Need-loop-again Inv-loop μ-loop
-loop-again c = ?
+loop-again c =
+    let c2 = c .before .before in
+    let c7 = c2 .before .before .before .before .before in
+    let c9 = c7 .before .before in
+    let c16 = c9 .before .before .before .before .before .before .before in
+    let c17 = c16 .before in
+    let c18 = c17 .before in
+    let pre = c18 .before .before .before .before .before .pre in
+    let (listed, on) = c9 .list-row-if .ensures in
+    (
+      rows-more (c17 .loop .inv .0) (omega (arith, c18 .operation-count .ensures, c16 .loop-test .taken)) listed (pre .2)
+      (pre .3) (c7 .fill .ensures) (c2 .copy .ensures),
+      on,
+    )
 
--- src/lib.rt:155:5
 cast-result : tie.Need-cast-result Inv-loop μ-loop
-cast-result c = ?
+cast-result c =
+    let c1 = c .before in
+    let c2 = c1 .before in
+    let written = rows-all (c1 .loop .inv .0) (omega (arith, c2 .operation-count .ensures, c .loop-test .left)) in
+    omega (arith, written .counts, table-few (c2 .before .before .before .before .before .pre .0))
 
--- src/lib.rt:117:1
 same-length : tie.Need-same-length Inv-loop μ-loop
-same-length c = ?
+same-length c = c .before .loop .inv .0 .low .size
 
--- src/lib.rt:117:1
 same-length-2 : tie.Need-same-length-2 Inv-loop μ-loop
-same-length-2 c = ?
+same-length-2 c = c .before .loop .inv .0 .high .size
 
--- src/lib.rt:117:1
 returns : tie.Need-returns Inv-loop μ-loop
-returns c = ?
+returns c =
+    let c1 = c .before in
+    rows-all (c1 .loop .inv .0) (omega (arith, c1 .before .operation-count .ensures, c .loop-test .left))
 
 pub write-rows-spec : {M : Type 1} → statement M
 write-rows-spec =
