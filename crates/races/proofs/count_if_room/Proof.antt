@@ -1,25 +1,27 @@
+-- `count_if_room` meets its contract. Assumes nothing.
+use native.Mathlib.Omega.{arith}
+use Rattle.races.proofs.Answers.{answer-listed, answer-short}
 use borrow.Author.Needs.{needs}
 use Rattle.races.proofs.count_if_room.Statement.{statement}
 use Rattle.races.proofs.count_if_room.Tie as tie
-use Rattle.races.proofs.count_if_room.Reads as reads
-use Rattle.races.proofs.count_if_room.Lts as lts
-use Rattle.races.proofs.count_races.Reads as count-races-reads
 
--- src/lib.rt:67:9
 count-races-requires : tie.Need-count-races-requires
 count-races-requires c κs = search needs
 
--- src/lib.rt:68:8
 cast-if1 : tie.Need-cast-if1
 cast-if1 c = search needs
 
--- src/lib.rt:69:9
 returns : tie.Need-returns
-returns c = ?
+returns c =
+    let c1 = c .before in
+    let pre = c1 .before .before .before .before .pre in
+    answer-listed (pre .0) (pre .1) _ (c1 .count-races .ensures .0) (omega (arith, c .if1 .taken))
 
--- src/lib.rt:56:1
 returns-2 : tie.Need-returns-2
-returns-2 c = ?
+returns-2 c =
+    let c1 = c .before in
+    let pre = c1 .before .before .before .before .pre in
+    answer-short (pre .0) (pre .1) _ (c1 .count-races .ensures .0) (omega (arith, c .if1 .left))
 
 pub count-if-room-spec : {M : Type 1} → statement M
 count-if-room-spec = tie.close (tie.spec count-races-requires cast-if1 returns returns-2)
