@@ -145,8 +145,8 @@ row-noted {t} {a} h n l =
 
 -- ---- the arrays
 
-pub begun-start : {t : Trace} {cells next kept seen : List ℕ} → length cells ≡ 2080 → length next ≡ 1024
-    → Zeros kept → length seen ≡ 1120 → Begun t 0 cells next kept seen
+pub begun-start : {t : Trace} {table cells next kept seen : List ℕ} → length cells ≡ 2080 → length next ≡ 1024
+    → Zeros kept → length seen ≡ 1120 → Begun t table 0 cells next kept seen
 begun-start c n k s =
     record {
       cells-long = c;
@@ -157,13 +157,13 @@ begun-start c n k s =
       searching = λ l. absurd (omega arith);
     }
 
-pub begun-on : {t : Trace} (a : ℕ) {cells next kept seen : List ℕ} → Searching t (a + 1) cells next kept seen
-    → Begun t (a + 1) cells next kept seen
+pub begun-on : {t : Trace} {table : List ℕ} (a : ℕ) {cells next kept seen : List ℕ}
+    → Searching t table (a + 1) cells next kept seen → Begun t table (a + 1) cells next kept seen
 begun-on a s =
     record {
       cells-long = s .cells-hold .long;
       next-long = s .next-holds .long;
-      kept-long = s .kept-holds .long;
+      kept-long = s .carried .state .long;
       kept-none = λ l. absurd (omega (arith, l));
       seen-long = s .notes .long;
       searching = λ l. s;

@@ -1,23 +1,31 @@
 -- A row is opened. In order: what is known before its blocks are noted; when they are; what the next row starts from;
 -- a row that is passed over.
 use mathlib.Core.List.{List, []}
+use mathlib.Core.Bool.{false, _&&_}
+use mathlib.Core.Logic.{inl, inr}
 use mathlib.Core.Path.{_≡_, sym}
 use native.Mathlib.Omega.{arith}
 use Prim.Native.Nat.{ℕ, _+_, _<_, _≤_}
+use lib.Dec.{ltb}
 use lib.ListN.{length}
+use borrow.Author.Tests.{lt-ltb}
+use Rattle.basics.proofs.Booleans.{less?}
 use Rattle.trace.specs.Reading.{traceOf}
-use Rattle.trace.specs.Trace.{Trace, size, workerOf}
+use Rattle.trace.specs.Trace.{Trace, size, operation, workerOf, isAccess}
 use Rattle.accept.proofs.Questions.{accepted-holds, accepted-workers}
 use Rattle.table_entries.specs.Entries.{HoldsTable}
 use Rattle.meetings.specs.Meetings.{Notes, SlotFor}
-use Rattle.unordered.specs.Kept.{lowOf, highOf, Ends, Kept, Now}
-use Rattle.race_model.specs.RaceRows.{RowHolds}
+use Rattle.unordered.specs.Kept.{lowOf, highOf, Ends, Kept, Carried, Now}
+use Rattle.race_model.specs.RaceList.{isRace}
+use Rattle.race_model.specs.RaceRows.{raceRow, RowHolds}
+use Rattle.race_model.proofs.RaceTests.{race-access}
+use Rattle.words.proofs.Passing.{passing-none}
 use Rattle.race_rows.specs.Rows.{ToNote, RowReady, Searching, RowOpen, CountsAt, RowsAt}
 use Rattle.race_rows.proofs.RowNotes.{begun-on}
 
 module _ {bytes table : List ℕ} (h : HoldsTable bytes table) {a : ℕ} (l : a < size (traceOf bytes))
-    {cells next kept seen kept′ : List ℕ} (s : Searching (traceOf bytes) a cells next kept seen)
-    (k : Kept (traceOf bytes) (a + 1) kept′ × Now (traceOf bytes) a kept′) where
+    {cells next kept seen kept′ : List ℕ} (s : Searching (traceOf bytes) table a cells next kept seen)
+    (k : Carried (traceOf bytes) table (a + 1) kept′ × Now (traceOf bytes) a kept′) where
   pub row-to-note : {seen′ : List ℕ} {slot w : ℕ} → Notes cells seen′ × SlotFor cells seen′ a slot
       → w ≡ workerOf (traceOf bytes) a → ToNote (traceOf bytes) a cells kept′ seen′ w slot
   row-to-note (notes, slot) e =
@@ -34,7 +42,7 @@ module _ {bytes table : List ℕ} (h : HoldsTable bytes table) {a : ℕ} (l : a 
 
   pub row-opened : {seen′ : List ℕ} {slot w : ℕ} → w ≡ workerOf (traceOf bytes) a
       → RowReady (traceOf bytes) a cells kept′ seen′ w slot
-      → RowOpen (traceOf bytes) a cells next kept′ seen′ slot
+      → RowOpen (traceOf bytes) table a cells next kept′ seen′ slot
   row-opened e r =
       record {
         ready = rw e at r;
@@ -42,13 +50,13 @@ module _ {bytes table : List ℕ} (h : HoldsTable bytes table) {a : ℕ} (l : a 
             record {
               cells-hold = s .cells-hold;
               next-holds = s .next-holds;
-              kept-holds = k .0;
+              carried = k .0;
               notes = r .to-note .notes;
             };
       }
 
 module _ {bytes table : List ℕ} (h : HoldsTable bytes table) {a : ℕ} {cells next kept seen : List ℕ} {slot : ℕ}
-    (o : RowOpen (traceOf bytes) a cells next kept seen slot) where
+    (o : RowOpen (traceOf bytes) table a cells next kept seen slot) where
   pub open-ready : {w : ℕ} → w ≡ workerOf (traceOf bytes) a → RowReady (traceOf bytes) a cells kept seen w slot
   open-ready e = rw e (o .ready)
 
@@ -77,25 +85,36 @@ kept-on {t} {a} {kept} k = record { long = k .long; ends = ends; sets = k .sets;
           not-after = λ d x l y m. e .not-after d x l y (omega arith);
         }
 
-pub row-passed : {bytes table : List ℕ} {a : ℕ} {cells next kept seen row : List ℕ} → HoldsTable bytes table
-    → length row ≡ 1024 → Searching (traceOf bytes) a cells next kept seen
-    → RowsAt bytes table (a + 1) cells next kept seen row
-row-passed {a = a} h e s =
+carried-on : {t : Trace} {table : List ℕ} {a : ℕ} {kept : List ℕ} → Carried t table a kept
+    → Carried t table (a + 1) kept
+carried-on c = record { state = kept-on (c .state); ranks = c .ranks }
+
+pub row-passed : {bytes table : List ℕ} {a : ℕ} {cells next kept seen : List ℕ} → HoldsTable bytes table
+    → Searching (traceOf bytes) table a cells next kept seen → CountsAt bytes table (a + 1) cells next kept seen
+row-passed {a = a} h s =
     record {
-      counts-at =
-          record {
-            holds = h;
-            begun =
-                begun-on a
-                (record {
-                  cells-hold = s .cells-hold;
-                  next-holds = s .next-holds;
-                  kept-holds = kept-on (s .kept-holds);
-                  notes = s .notes;
-                });
-          };
-      row-long = e;
+      holds = h;
+      begun =
+          begun-on a
+          (record {
+            cells-hold = s .cells-hold;
+            next-holds = s .next-holds;
+            carried = carried-on (s .carried);
+            notes = s .notes;
+          });
     }
 
-pub row-known-empty : {numbers row : List ℕ} → length row ≡ 1024 → numbers ≡ [] → RowHolds numbers 0 row
-row-known-empty e i = record { long = e; few = omega arith; front = sym i }
+-- an operation that is no Read or Write has no race
+pub row-no-access : (t : Trace) (a : ℕ) → isAccess (operation t a .kind) ≡ false → raceRow t a ≡ []
+row-no-access t a e = passing-none (isRace t a) (size t) (λ b l. race-access t a b e)
+
+-- nor has one of which it is known
+pub row-known : (t : Trace) (a some : ℕ) → (some ≡ 0 → raceRow t a ≡ [])
+    → ltb 0 some && isAccess (operation t a .kind) ≡ false → raceRow t a ≡ []
+row-known t a some h e = elim (less? 0 some) [
+  | inl l ↦ row-no-access t a (rw (lt-ltb 0 some l) at e)
+  | inr l ↦ h (omega arith)
+]
+
+pub row-empty : {numbers row : List ℕ} → length row ≡ 1024 → numbers ≡ [] → RowHolds numbers 0 row
+row-empty e i = record { long = e; few = omega arith; front = sym i }

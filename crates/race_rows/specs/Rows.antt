@@ -15,7 +15,7 @@ use Rattle.conflicts.specs.Cells.{CellsHold}
 use Rattle.meetings.specs.Meetings.{firstOf, lastOf, isNoted, Notes, SlotFor}
 use Rattle.table_entries.specs.Entries.{HoldsTable}
 use Rattle.unordered.specs.Beginning.{Zeros}
-use Rattle.unordered.specs.Kept.{HoldsNext, held, Kept, Now}
+use Rattle.unordered.specs.Kept.{HoldsNext, held, Carried, Now}
 use Rattle.race_model.specs.RaceList.{isRace}
 
 -- r holds those of the 32 operations from 32 v on that stand after a
@@ -60,30 +60,30 @@ pub record BlockDone (cells kept seen : List ℕ) (w s block : ℕ) (seen′ : L
   pub last-same : lastOf seen′ s ≡ lastOf seen s
 
 -- what the search goes by, before row a
-pub record Searching (t : Trace) (a : ℕ) (cells next kept seen : List ℕ) : Type 0 where
+pub record Searching (t : Trace) (table : List ℕ) (a : ℕ) (cells next kept seen : List ℕ) : Type 0 where
   pub cells-hold : CellsHold t cells
   pub next-holds : HoldsNext t next
-  pub kept-holds : Kept t a kept
+  pub carried : Carried t table a kept
   pub notes : Notes cells seen
 
 -- row a is open, with the cells of `slot`, and the next row can be
-pub record RowOpen (t : Trace) (a : ℕ) (cells next kept seen : List ℕ) (slot : ℕ) : Type 0 where
+pub record RowOpen (t : Trace) (table : List ℕ) (a : ℕ) (cells next kept seen : List ℕ) (slot : ℕ) : Type 0 where
   pub ready : RowReady t a cells kept seen (workerOf t a) slot
-  pub on : Searching t (a + 1) cells next kept seen
+  pub on : Searching t table (a + 1) cells next kept seen
 
 -- arrays for it; from row 1 on they hold it
-pub record Begun (t : Trace) (a : ℕ) (cells next kept seen : List ℕ) : Type 0 where
+pub record Begun (t : Trace) (table : List ℕ) (a : ℕ) (cells next kept seen : List ℕ) : Type 0 where
   pub cells-long : length cells ≡ 2080
   pub next-long : length next ≡ 1024
   pub kept-long : length kept ≡ 1536
   pub kept-none : a < 1 → Zeros kept
   pub seen-long : length seen ≡ 1120
-  pub searching : 1 ≤ a → Searching t a cells next kept seen
+  pub searching : 1 ≤ a → Searching t table a cells next kept seen
 
 -- a file, its table, and the arrays
 pub record CountsAt (bytes table : List ℕ) (a : ℕ) (cells next kept seen : List ℕ) : Type 0 where
   pub holds : HoldsTable bytes table
-  pub begun : Begun (traceOf bytes) a cells next kept seen
+  pub begun : Begun (traceOf bytes) table a cells next kept seen
 
 -- and an array for a row
 pub record RowsAt (bytes table : List ℕ) (a : ℕ) (cells next kept seen row : List ℕ) : Type 0 where

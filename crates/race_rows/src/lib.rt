@@ -151,15 +151,16 @@ fn list_words(
 // Reads the file for the rows.
 fn begin(
     file: &[u8],
+    table: &[u16],
     cells: &mut [u32; 2080],
     next: &mut [u32; 1024],
     kept: &mut [u32; 1536],
     seen: &mut [u32; 1120],
 )
     requires { ⌜ (fileReading (now file) ≡ reads (traceOf (now file)))
-        × Begun (traceOf (now file)) 0 (now cells) (now next) (now kept) (now seen) ⌝ }
-    ensures { λ r. ⌜ Searching (traceOf (now (file .entry))) 0 (now (cells .exit)) (now (next .exit))
-        (now (kept .exit)) (now (seen .exit)) ⌝ }
+        × Begun (traceOf (now file)) (now table) 0 (now cells) (now next) (now kept) (now seen) ⌝ }
+    ensures { λ r. ⌜ Searching (traceOf (now (file .entry))) (now (table .entry)) 0 (now (cells .exit))
+        (now (next .exit)) (now (kept .exit)) (now (seen .exit)) ⌝ }
 {
     conflicts::read_cells(file, cells);
     unordered::begin(file, next, kept);
@@ -169,6 +170,7 @@ fn begin(
 // The same before row 0; before another row, nothing.
 fn begin_first(
     file: &[u8],
+    table: &[u16],
     a: usize,
     cells: &mut [u32; 2080],
     next: &mut [u32; 1024],
@@ -176,14 +178,14 @@ fn begin_first(
     seen: &mut [u32; 1120],
 )
     requires { ⌜ (fileReading (now file) ≡ reads (traceOf (now file)))
-        × Begun (traceOf (now file)) a (now cells) (now next) (now kept) (now seen) ⌝ }
-    ensures { λ r. ⌜ Searching (traceOf (now (file .entry))) a (now (cells .exit)) (now (next .exit))
-        (now (kept .exit)) (now (seen .exit)) ⌝ }
+        × Begun (traceOf (now file)) (now table) a (now cells) (now next) (now kept) (now seen) ⌝ }
+    ensures { λ r. ⌜ Searching (traceOf (now (file .entry))) (now (table .entry)) a (now (cells .exit))
+        (now (next .exit)) (now (kept .exit)) (now (seen .exit)) ⌝ }
 {
     if 0 < a {
         return;
     }
-    begin(file, cells, next, kept, seen);
+    begin(file, table, cells, next, kept, seen);
 }
 
 // Goes on to row a, and answers the slot of its cells.
@@ -198,10 +200,10 @@ fn open_row(
 ) -> usize
     requires { ⌜ CountsAt (now file) (now table) a (now cells) (now next) (now kept) (now seen)
         × (a < size (traceOf (now file))) ⌝ }
-    ensures { λ r. ⌜ RowOpen (traceOf (now (file .entry))) a (now (cells .exit)) (now (next .exit)) (now (kept .exit))
-        (now (seen .exit)) r ⌝ }
+    ensures { λ r. ⌜ RowOpen (traceOf (now (file .entry))) (now (table .entry)) a (now (cells .exit))
+        (now (next .exit)) (now (kept .exit)) (now (seen .exit)) r ⌝ }
 {
-    begin_first(file, a, cells, next, kept, seen);
+    begin_first(file, table, a, cells, next, kept, seen);
     unordered::carry_on(file, table, next, a, kept);
     let slot = meetings::slot_for(cells, a, seen);
     let w = basics::byte_index(trace::worker_of(file, a));
@@ -209,8 +211,25 @@ fn open_row(
     slot
 }
 
-// How many races there are whose lower operation is a. Rows are asked for in order, from 0 on; row 0 begins the search.
-pub fn count_row(
+// Passes over row a, which is known to be empty.
+fn pass_over(
+    file: &[u8],
+    table: &[u16],
+    a: usize,
+    cells: &mut [u32; 2080],
+    next: &mut [u32; 1024],
+    kept: &mut [u32; 1536],
+    seen: &mut [u32; 1120],
+)
+    requires { ⌜ CountsAt (now file) (now table) a (now cells) (now next) (now kept) (now seen) ⌝ }
+    ensures { λ r. ⌜ CountsAt (now (file .entry)) (now (table .entry)) (a + 1) (now (cells .exit)) (now (next .exit))
+        (now (kept .exit)) (now (seen .exit)) ⌝ }
+{
+    begin_first(file, table, a, cells, next, kept, seen);
+}
+
+// How many races there are whose lower operation is a, a Read or Write.
+fn count_open(
     file: &[u8],
     table: &[u16],
     a: usize,
@@ -230,8 +249,32 @@ pub fn count_row(
     count_words(file, cells, kept, seen, a, w, slot)
 }
 
-// The higher operations of these races, and how many there are.
-pub fn list_row(
+// The same of any operation. Rows are asked for in order, from 0 on; row 0 begins the search.
+pub fn count_row(
+    file: &[u8],
+    table: &[u16],
+    a: usize,
+    cells: &mut [u32; 2080],
+    next: &mut [u32; 1024],
+    kept: &mut [u32; 1536],
+    seen: &mut [u32; 1120],
+) -> usize
+    requires { ⌜ CountsAt (now file) (now table) a (now cells) (now next) (now kept) (now seen)
+        × (a < size (traceOf (now file))) ⌝ }
+    ensures { λ r. ⌜ (r ≡ length (raceRow (traceOf (now (file .entry))) a))
+        × CountsAt (now (file .entry)) (now (table .entry)) (a + 1) (now (cells .exit)) (now (next .exit))
+        (now (kept .exit)) (now (seen .exit)) ⌝ }
+{
+    let o = trace::operation_of(file, a);
+    if trace::is_access(o.kind) {
+        return count_open(file, table, a, cells, next, kept, seen);
+    }
+    pass_over(file, table, a, cells, next, kept, seen);
+    0
+}
+
+// Lists the higher operations of the races whose lower one is a, a Read or Write, and answers how many there are.
+fn list_open(
     file: &[u8],
     table: &[u16],
     a: usize,
@@ -252,8 +295,8 @@ pub fn list_row(
     list_words(file, cells, kept, seen, a, w, slot, row)
 }
 
-// The same, unless `some` is 0, which says that there are none: then the row is passed over.
-pub fn list_row_if(
+// The same of any operation, in order as for `count_row`; where `some` is 0, a is known to have no race.
+pub fn list_row(
     file: &[u8],
     table: &[u16],
     a: usize,
@@ -271,9 +314,10 @@ pub fn list_row_if(
         × RowsAt (now (file .entry)) (now (table .entry)) (a + 1) (now (cells .exit)) (now (next .exit))
         (now (kept .exit)) (now (seen .exit)) (now (row .exit)) ⌝ }
 {
-    if some < 1 {
-        begin_first(file, a, cells, next, kept, seen);
-        return 0;
+    let o = trace::operation_of(file, a);
+    if basics::both(0 < some, trace::is_access(o.kind)) {
+        return list_open(file, table, a, cells, next, kept, seen, row);
     }
-    list_row(file, table, a, cells, next, kept, seen, row)
+    pass_over(file, table, a, cells, next, kept, seen);
+    0
 }

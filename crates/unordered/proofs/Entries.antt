@@ -11,10 +11,10 @@ use Rattle.basics.proofs.Booleans.{less?}
 use Rattle.trace.specs.Reading.{traceOf}
 use Rattle.trace.specs.Trace.{size, workerOf}
 use Rattle.model.specs.Computed.{mustPrecedeIn}
-use Rattle.table_entries.specs.Entries.{Inside, PairInTable}
+use Rattle.table_entries.specs.Entries.{HoldsTable, Inside, PairInTable}
 use Rattle.table_entries.proofs.TableEntries.{entry-inside, pair-back}
-use Rattle.unordered.specs.Kept.{IsOf, NextAt}
-use Rattle.unordered.specs.Turns.{rankAt, TwoWorkers, Place}
+use Rattle.unordered.specs.Kept.{IsOf, NextAt, HoldsNext, rankAt}
+use Rattle.unordered.specs.Turns.{TwoWorkers, Place}
 use Rattle.unordered.proofs.Ends.{of-few}
 use Rattle.unordered.proofs.Order.{Given, table-given, entries-certain, entries-uncertain}
 
@@ -32,6 +32,19 @@ module _ (table : List ℕ) (p end k q : ℕ) where
   -- a rank below 65536 is that of a row before the end
   pub rank-below : rankAt table p end k q < 65536 → k < end
   rank-below l = elim (less? k end) [ inl i ↦ i | inr i ↦ absurd (omega (arith, rank-past i)) ]
+
+-- what the code has read of a
+pub placed : {bytes table next : List ℕ} {p n a worker w : ℕ} → HoldsTable bytes table × HoldsNext (traceOf bytes) next
+    → a < size (traceOf bytes) → p ≡ traceOf bytes .workers → n ≡ size (traceOf bytes)
+    → worker ≡ workerOf (traceOf bytes) a → w ≡ worker → Place bytes table next p n a w
+placed (h, t) l p n e f =
+    record {
+      holds = h;
+      nexts = t;
+      workers = p;
+      count = n;
+      turn = record { below = l; worker = sym e ∙ sym f };
+    }
 
 module _ {bytes table next : List ℕ} {p n a w : ℕ} (l : Place bytes table next p n a w) where
   pub place-given : Given (traceOf bytes)

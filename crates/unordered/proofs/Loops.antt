@@ -11,15 +11,16 @@ use Rattle.basics.proofs.Booleans.{equal?, less?}
 use Rattle.trace.specs.Reading.{traceOf}
 use Rattle.trace.specs.Trace.{Trace, size}
 use Rattle.model.specs.Computed.{mustPrecedeIn}
-use Rattle.unordered.specs.Kept.{IsOf, NextAt, lowOf, highOf, Ends}
-use Rattle.unordered.specs.Turns.{rankAt, TakenOne, LetOne, Place, Ahead, Settled, Turn}
+use Rattle.unordered.specs.Kept.{IsOf, NextAt, lowOf, highOf, rankAt, Ends, Kept}
+use Rattle.unordered.specs.Turns.{TakenOne, LetOne, Place, Ahead, Settled, Turn, OtherRanks}
 use Rattle.table_entries.specs.Entries.{Inside}
 use Rattle.unordered.proofs.Ends.{of-few, end-few, low-inside, high-inside}
 use Rattle.unordered.proofs.Entries.{rank-inside, rank-past, rank-below, place-given, place-limits}
 use Rattle.unordered.proofs.Entries.{place-inside, place-next}
 use Rattle.unordered.proofs.Entries.{after-certain, after-uncertain, before-certain, before-uncertain}
 use Rattle.unordered.proofs.Order.{certain-on, uncertain-on}
-use Rattle.unordered.proofs.Turns.{take-one, let-one, twice-other}
+use Rattle.unordered.proofs.Ranks.{ranks-moved}
+use Rattle.unordered.proofs.Turns.{take-one, let-one, take-moved, let-moved, twice-other}
 
 -- ---- taking in
 
@@ -28,6 +29,7 @@ pub record TakingIn (t : Trace) (table : List ℕ) (p n a w q : ℕ) (kept : Lis
   pub turn : Turn t a w q kept
   pub end : h ≡ highOf kept w q
   pub rank : due ≡ rankAt table p n h q
+  pub ranks : OtherRanks t table w q kept
 
 module _ {bytes table next : List ℕ} {p n a w : ℕ} (l : Place bytes table next p n a w) {q : ℕ} (few : q < p) where
   pair-few : q < traceOf bytes .workers
@@ -67,11 +69,15 @@ module _ {bytes table next : List ℕ} {p n a w : ℕ} (l : Place bytes table ne
               f ∙ sym (getD-set-same (set kept (32 * w + h / 32) (x .word)) (512 + 16 * w + q) (getD next h 0) 0
               (simp length-set (omega (arith, s .turn .state .long))));
           rank = r;
+          ranks =
+              ranks-moved (g .most) (take-moved g (l .turn) pair-few (s .turn) o (x .word) (getD next h 0)) (s .ranks);
         })
 
     pub in-end : {bound : ℕ} → bound ≡ getD table (a * p + q) 0 → bound ≤ due
-        → Turn (traceOf bytes) a w q kept × Ahead (traceOf bytes) a q (highOf kept w q)
-    in-end e b = (s .turn, rw (← s .end) (record { certain = ahead }))
+        → Turn (traceOf bytes) a w q kept
+        × Ahead (traceOf bytes) a q (highOf kept w q)
+        × OtherRanks (traceOf bytes) table w q kept
+    in-end e b = (s .turn, rw (← s .end) (record { certain = ahead }), s .ranks)
       where
         ahead : {b : ℕ} → IsOf (traceOf bytes) q b → h ≤ b → mustPrecedeIn (traceOf bytes) a b ≡ true
         ahead i m =
@@ -90,15 +96,16 @@ pub record LettingOut (t : Trace) (table : List ℕ) (p a w q : ℕ) (kept : Lis
   pub high-end : high ≡ highOf kept w q
   pub end : k ≡ lowOf kept w q
   pub rank : gone ≡ rankAt table p high k w
+  pub ranks : OtherRanks t table w q kept
 
 -- the row of the low end
 pub low-row : {bytes table next : List ℕ} {p n a w : ℕ} → Place bytes table next p n a w → {q : ℕ} → q < p
-    → {kept : List ℕ} {high k : ℕ} → Turn (traceOf bytes) a w q kept → high ≡ highOf kept w q → k ≡ lowOf kept w q
+    → {kept : List ℕ} {high k : ℕ} → Kept (traceOf bytes) a kept → high ≡ highOf kept w q → k ≡ lowOf kept w q
     → k < high → Inside table p k w
 low-row l {q} few {kept} s e f below =
     let g = place-given l in
     let w-few = of-few g (l .turn) in
-    let ends = rw (← e, ← f) at (s .state .ends _ q w-few (pair-few l few)) in
+    let ends = rw (← e, ← f) at (s .ends _ q w-few (pair-few l few)) in
     place-inside l (low-inside g ends below .below) (omega (arith, w-few, l .workers))
 
 module _ {bytes table next : List ℕ} {p n a w : ℕ} (l : Place bytes table next p n a w) {q : ℕ} (few : q < p)
@@ -157,11 +164,14 @@ module _ {bytes table next : List ℕ} {p n a w : ℕ} (l : Place bytes table ne
             f ∙ sym (getD-set-same (set kept (32 * w + k / 32) (x .word)) (768 + 16 * w + q) (getD next k 0) 0
             (simp length-set (omega (arith, s .turn .state .long))));
         rank = r;
+        ranks =
+            ranks-moved (g .most) (let-moved g (l .turn) (pair-few l few) (s .turn) o (x .word) (getD next k 0))
+            (s .ranks);
       })
 
   pub out-end : {bound : ℕ} → bound ≡ getD table (a * p + w) 0 → bound < gone
-      → Turn (traceOf bytes) a w (q + 1) kept
-  out-end e b = record { state = s .turn .state; settled = settled }
+      → Turn (traceOf bytes) a w (q + 1) kept × OtherRanks (traceOf bytes) table w q kept
+  out-end e b = (record { state = s .turn .state; settled = settled }, s .ranks)
     where
       behind : {b : ℕ} → IsOf (traceOf bytes) q b → k ≤ b → b < high → mustPrecedeIn (traceOf bytes) b a ≡ false
       behind i m below =

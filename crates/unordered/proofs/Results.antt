@@ -12,7 +12,8 @@ use Rattle.basics.proofs.Booleans.{equal?, less?}
 use Rattle.trace.specs.Reading.{traceOf}
 use Rattle.trace.specs.Trace.{Trace, size, workerOf}
 use Rattle.model.specs.Computed.{mustPrecedeIn, unorderedIn}
-use Rattle.unordered.specs.Kept.{IsOf, held, lowOf, highOf, between, Ends, Kept, Now}
+use Rattle.unordered.specs.Kept.{IsOf, held, lowOf, highOf, between, Ends, Kept, AllRanks}
+use Rattle.unordered.specs.Kept.{Carried, Now}
 use Rattle.unordered.specs.Turns.{Place, Settled, Turn}
 use Rattle.unordered.proofs.Ends.{of-few}
 use Rattle.unordered.proofs.Entries.{place-given}
@@ -108,8 +109,12 @@ module _ {t : Trace} (g : Given t) {a w : ℕ} (turn : IsOf t w a) {kept : List 
   turn-end = (turn-later, turn-now)
 
 -- with the counts that the code has read
-pub turn-done : {bytes table next : List ℕ} {p n a w q : ℕ} {kept : List ℕ} → Place bytes table next p n a w → q ≤ p
-    → p ≤ q → Turn (traceOf bytes) a w q kept → Kept (traceOf bytes) (a + 1) kept × Now (traceOf bytes) a kept
-turn-done {bytes} {p = p} {q = q} l m o s =
-    let e : q ≡ traceOf bytes .workers = omega (arith, l .workers) in
-    turn-end (place-given l) (l .turn) (rw e at s)
+pub turn-all : {t : Trace} {a w q p : ℕ} {kept : List ℕ} → q ≤ p → p ≤ q → Turn t a w q kept → Turn t a w p kept
+turn-all {q = q} {p} m o s = let e : q ≡ p = omega arith in rw e at s
+
+pub turn-done : {bytes table next : List ℕ} {p n a w : ℕ} {kept : List ℕ} → Place bytes table next p n a w
+    → Turn (traceOf bytes) a w p kept → AllRanks (traceOf bytes) table kept
+    → Carried (traceOf bytes) table (a + 1) kept × Now (traceOf bytes) a kept
+turn-done l s r =
+    let (state, set) = turn-end (place-given l) (l .turn) (rw (l .workers) at s) in
+    (record { state = state; ranks = r }, set)

@@ -27,6 +27,7 @@ pub record Moved (t : Trace) (w q : ℕ) (kept kept′ : List ℕ) : Type 0 wher
   pub low : (v r : ℕ) → v < 16 → r < 16 → 16 * v + r ≢ 16 * w + q → lowOf kept′ v r ≡ lowOf kept v r
   pub high : (v r : ℕ) → v < 16 → r < 16 → 16 * v + r ≢ 16 * w + q → highOf kept′ v r ≡ highOf kept v r
   pub sets : (v b : ℕ) → v ≢ w → v < 16 → b < 1024 → held kept′ v b ≡ held kept v b
+  pub rest : (j : ℕ) → 1024 ≤ j → getD kept′ j 0 ≡ getD kept j 0
 
 module _ {t : Trace} (g : Given t) {a w q : ℕ} (turn : IsOf t w a) (few : q < t .workers) {kept kept′ : List ℕ}
     (s : Turn t a w q kept) (m : Moved t w q kept kept′) where
@@ -109,7 +110,18 @@ module _ {t : Trace} (g : Given t) {a w q : ℕ} (turn : IsOf t w a) (few : q < 
             held-elsewhere (set kept (32 * w + k / 32) x) i y v b (λ z. omega (arith, z))
             ∙ held-elsewhere kept (32 * w + k / 32) x v b
             (λ z. n (omega (arith, z, o .below, g .few)));
+        rest = λ j l. twice-other kept _ i j x y (λ z. omega (arith, z, at-few)) (λ z. omega (arith, z));
       }
+
+  pub take-moved : (x y : ℕ) → Moved t w q kept (set (set kept (32 * w + k / 32) x) (512 + 16 * w + q) y)
+  take-moved x y =
+      stored (512 + 16 * w + q) x y (omega arith) (omega (arith, w-few, q-few))
+      (λ v r h l d. (λ z. omega (arith, z, w-few, q-few), λ z. d (omega (arith, z))))
+
+  pub let-moved : (x y : ℕ) → Moved t w q kept (set (set kept (32 * w + k / 32) x) (768 + 16 * w + q) y)
+  let-moved x y =
+      stored (768 + 16 * w + q) x y (omega arith) (omega (arith, w-few, q-few))
+      (λ v r h l d. (λ z. d (omega (arith, z)), λ z. omega (arith, z, w-few, q-few)))
 
   -- the set holds k, and the high end is y
   pub take-one : {x y : ℕ} → k ≡ highOf kept w q → mustPrecedeIn t a k ≡ false → NextAt t q (k + 1) y
@@ -121,9 +133,7 @@ module _ {t : Trace} (g : Given t) {a w q : ℕ} (turn : IsOf t w a) (few : q < 
       kept′ = set (set kept (32 * w + k / 32) x) (512 + 16 * w + q) y
 
       m : Moved t w q kept kept′
-      m =
-          stored (512 + 16 * w + q) x y (omega arith) (omega (arith, w-few, q-few))
-          (λ v r h l d. (λ z. omega (arith, z, w-few, q-few), λ z. d (omega (arith, z))))
+      m = take-moved x y
 
       low : lowOf kept′ w q ≡ lowOf kept w q
       low = twice-other kept _ _ _ x y (λ z. omega (arith, z, at-few)) (λ z. omega (arith, z))
@@ -173,9 +183,7 @@ module _ {t : Trace} (g : Given t) {a w q : ℕ} (turn : IsOf t w a) (few : q < 
       kept′ = set (set kept (32 * w + k / 32) x) (768 + 16 * w + q) y
 
       m : Moved t w q kept kept′
-      m =
-          stored (768 + 16 * w + q) x y (omega arith) (omega (arith, w-few, q-few))
-          (λ v r h l d. (λ z. d (omega (arith, z)), λ z. omega (arith, z, w-few, q-few)))
+      m = let-moved x y
 
       high : highOf kept′ w q ≡ highOf kept w q
       high = twice-other kept _ _ _ x y (λ z. omega (arith, z, at-few)) (λ z. omega (arith, z))

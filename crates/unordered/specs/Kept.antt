@@ -2,7 +2,7 @@
 -- Follows: document 01, "Order table and order".
 -- Differs: nowhere. Means: no call's contract speaks of these. Of worker q, the operations that are unordered with an
 -- operation of worker w are those from a low end to a high one, and both ends only move up along w.
-use mathlib.Core.Bool.{Bool, true, false, not, _&&_}
+use mathlib.Core.Bool.{Bool, true, false, cond, not, _&&_}
 use mathlib.Core.List.{List}
 use mathlib.Core.Logic.{_≢_}
 use mathlib.Core.Path.{_≡_}
@@ -49,6 +49,17 @@ highOf kept w q = getD kept (512 + 16 * w + q) 0
 abbrev pub lowOf : List ℕ → ℕ → ℕ → ℕ
 lowOf kept w q = getD kept (768 + 16 * w + q) 0
 
+-- entry q of row k; a number above all entries where k is not below `end`
+unfoldable pub rankAt : List ℕ → ℕ → ℕ → ℕ → ℕ → ℕ
+rankAt table p end k q = cond (ltb k end) (getD table (k * p + q) 0) 65536
+
+-- the rank of the high end in its own worker, and that of the low end in w
+abbrev pub dueOf : List ℕ → ℕ → ℕ → ℕ
+dueOf kept w q = getD kept (1024 + 16 * w + q) 0
+
+abbrev pub goneOf : List ℕ → ℕ → ℕ → ℕ
+goneOf kept w q = getD kept (1280 + 16 * w + q) 0
+
 -- is b from `low` on, and below `high`?
 abbrev pub between : ℕ → ℕ → ℕ → Bool
 between low high b = leb low b && ltb b high
@@ -70,6 +81,20 @@ pub record Kept (t : Trace) (a : ℕ) (kept : List ℕ) : Type 0 where
   pub sets : {q b : ℕ} (w : ℕ) → w < t .workers → IsOf t q b
       → held kept w b ≡ between (lowOf kept w q) (highOf kept w q) b
   pub rest : (w b : ℕ) → w < t .workers → size t ≤ b → b < 1024 → held kept w b ≡ false
+
+-- the ranks of two ends are kept, or something below them
+pub record Ranks (t : Trace) (table kept : List ℕ) (w q : ℕ) : Type 0 where
+  pub due : dueOf kept w q ≤ rankAt table (t .workers) (size t) (highOf kept w q) q
+  pub gone : goneOf kept w q ≤ rankAt table (t .workers) (highOf kept w q) (lowOf kept w q) w
+
+-- so are those of all ends
+pub record AllRanks (t : Trace) (table kept : List ℕ) : Type 0 where
+  pub each : (w q : ℕ) → w < t .workers → q < t .workers → Ranks t table kept w q
+
+-- what is carried on: the ends and sets for the operations from a on, and the ranks
+pub record Carried (t : Trace) (table : List ℕ) (a : ℕ) (kept : List ℕ) : Type 0 where
+  pub state : Kept t a kept
+  pub ranks : AllRanks t table kept
 
 -- the set of a's worker holds the other operations that are unordered with a
 pub record Now (t : Trace) (a : ℕ) (kept : List ℕ) : Type 0 where

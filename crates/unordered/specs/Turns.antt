@@ -1,22 +1,21 @@
 -- What the functions that carry a worker's set on to an operation know.
 -- Follows: document 01, "Order table and order".
 -- Differs: nowhere. Means: no call's contract speaks of these.
-use mathlib.Core.Bool.{true, false, cond}
+use mathlib.Core.Bool.{true, false}
+use mathlib.Core.Logic.{_≢_}
 use mathlib.Core.List.{List}
 use mathlib.Core.Path.{_≡_}
 use Prim.Native.Nat.{ℕ, _+_, _*_, _/_, _%_, _<_, _≤_}
-use lib.Dec.{ltb}
+use lib.Bits.{bitOr}
+use lib.Dec.{leb, ltb}
 use lib.ListN.{getD, set}
+use mir.Val.{boolByte}
 use Rattle.trace.specs.Reading.{traceOf}
 use Rattle.trace.specs.Trace.{Trace, size}
 use Rattle.model.specs.Computed.{mustPrecedeIn}
 use Rattle.words.specs.Words.{With, Without}
 use Rattle.table_entries.specs.Entries.{HoldsTable}
-use Rattle.unordered.specs.Kept.{IsOf, HoldsNext, lowOf, highOf, Kept}
-
--- entry q of row k; a number above all entries where k is not below `end`
-unfoldable pub rankAt : List ℕ → ℕ → ℕ → ℕ → ℕ → ℕ
-rankAt table p end k q = cond (ltb k end) (getD table (k * p + q) 0) 65536
+use Rattle.unordered.specs.Kept.{IsOf, HoldsNext, lowOf, highOf, dueOf, goneOf, Kept, Ranks}
 
 -- ---- one operation
 
@@ -59,3 +58,20 @@ pub record Settled (t : Trace) (a q low high : ℕ) : Type 0 where
 pub record Turn (t : Trace) (a w q : ℕ) (kept : List ℕ) : Type 0 where
   pub state : Kept t a kept
   pub settled : (r : ℕ) → r < q → Settled t a r (lowOf kept w r) (highOf kept w r)
+
+-- the ranks of all ends are kept but those of w and q
+pub record OtherRanks (t : Trace) (table : List ℕ) (w q : ℕ) (kept : List ℕ) : Type 0 where
+  pub each : (v r : ℕ) → v < t .workers → r < t .workers → 16 * v + r ≢ 16 * w + q → Ranks t table kept v r
+
+-- the ranks say that both ends of q's operations in w's set are right for a
+pub record Still (table kept : List ℕ) (p a w q : ℕ) : Type 0 where
+  pub due : getD table (a * p + q) 0 ≤ dueOf kept w q
+  pub gone : getD table (a * p + w) 0 < goneOf kept w q
+
+-- they say so of all ends of w's set
+pub record AllStill (table kept : List ℕ) (p a w : ℕ) : Type 0 where
+  pub each : (q : ℕ) → q < p → Still table kept p a w q
+
+-- whether they say that one of the two ends is not right
+abbrev pub movesBit : ℕ → ℕ → ℕ → ℕ → ℕ
+movesBit bound due own gone = bitOr (boolByte (ltb due bound)) (boolByte (leb gone own))

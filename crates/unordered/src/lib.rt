@@ -1,15 +1,19 @@
 // The operations that are unordered with a worker's operation, kept as bits along that worker. Of another worker q they
 // are those from a low end to a high one, and both ends only move up. The 32 words from 32 * w on hold the set of
-// worker w, word 512 + 16 * w + q its high end for q, and word 768 + 16 * w + q its low one.
+// worker w, word 512 + 16 * w + q its high end for q, and word 768 + 16 * w + q its low one. The ranks of both stand in
+// words 1024 + 16 * w + q and 1280 + 16 * w + q, and tell for all q whether an end has to move.
 ghost use mathlib.Core.Path.{_≡_};
-ghost use Prim.Native.Nat.{_+_, _*_, _<_};
-ghost use lib.ListN.{length, getD};
+ghost use mathlib.Core.List.{List};
+ghost use Prim.Native.Nat.{ℕ, _+_, _<_};
+ghost use lib.ListN.{length};
 ghost use Rattle.trace.specs.Reading.{reads, fileReading, traceOf};
 ghost use Rattle.trace.specs.Trace.{size};
-ghost use Rattle.table_entries.specs.Entries.{HoldsTable, Inside};
+ghost use Rattle.table_entries.specs.Entries.{HoldsTable};
 ghost use Rattle.unordered.specs.Beginning.{Zeros, NothingRead, ReadFrom, firstEnd, EndsSet};
-ghost use Rattle.unordered.specs.Kept.{HoldsNext, highOf, lowOf, Kept, Now};
-ghost use Rattle.unordered.specs.Turns.{rankAt, TwoWorkers, TakenOne, LetOne, Place, Ahead, Turn};
+ghost use Rattle.unordered.specs.Kept.{HoldsNext, highOf, AllRanks, Carried, Now};
+ghost use Rattle.unordered.specs.Turns.{Place, Ahead, Turn, OtherRanks, AllStill};
+
+mod pair;
 
 // Reads the file from its end: the next operation of each operation's worker, and the first of each worker; 1024 where
 // there is none.
@@ -59,66 +63,11 @@ pub fn begin(file: &[u8], next: &mut [u32; 1024], kept: &mut [u32; 1536])
         × (length (now next) ≡ 1024)
         × Zeros (now kept) ⌝ }
     ensures { λ r. ⌜ HoldsNext (traceOf (now (file .entry))) (now (next .exit))
-        × Kept (traceOf (now (file .entry))) 0 (now (kept .exit)) ⌝ }
+        × ((table : List ℕ) → Carried (traceOf (now (file .entry))) table 0 (now (kept .exit))) ⌝ }
 {
     let mut firsts = [1024u32; 16];
     read_next(file, next, &mut firsts);
     set_ends(&firsts, kept);
-}
-
-// Entry q of row k.
-fn entry(table: &[u16], p: usize, k: usize, q: usize) -> u32
-    requires { ⌜ Inside (now table) p k q ⌝ }
-    ensures { λ r. ⌜ (r ≡ getD (now (table .entry)) (k * p + q) 0) × (r < 65536) ⌝ }
-{
-    basics::wide(table[k * p + q])
-}
-
-// Entry q of row k; a number above all entries where k is not below `end`.
-fn rank(table: &[u16], p: usize, end: usize, k: usize, q: usize) -> u32
-    requires { ⌜ (k < end → Inside (now table) p k q) ⌝ }
-    ensures { λ r. ⌜ r ≡ rankAt (now (table .entry)) p end k q ⌝ }
-{
-    if k < end {
-        return entry(table, p, k, q);
-    }
-    65536
-}
-
-// The high end of worker q's operations in w's set.
-fn high_end(kept: &[u32; 1536], w: usize, q: usize) -> usize
-    requires { ⌜ TwoWorkers w q ⌝ }
-    ensures { λ r. ⌜ r ≡ highOf (now (kept .entry)) w q ⌝ }
-{
-    basics::wide_index(kept[512 + 16 * w + q])
-}
-
-// The low end.
-fn low_end(kept: &[u32; 1536], w: usize, q: usize) -> usize
-    requires { ⌜ TwoWorkers w q ⌝ }
-    ensures { λ r. ⌜ r ≡ lowOf (now (kept .entry)) w q ⌝ }
-{
-    basics::wide_index(kept[768 + 16 * w + q])
-}
-
-// Takes q's operation k into w's set, with the high end behind it.
-fn take_one(w: usize, q: usize, k: usize, after: u32, kept: &mut [u32; 1536])
-    requires { ⌜ TwoWorkers w q × (k < 1024) ⌝ }
-    ensures { λ r. ⌜ TakenOne w q k after (now (kept .entry)) (now (kept .exit)) ⌝ }
-{
-    let at = 32 * w + k / 32;
-    kept[at] = words::with(kept[at], (k % 32) as u32);
-    kept[512 + 16 * w + q] = after;
-}
-
-// Lets q's operation k out of w's set, with the low end behind it.
-fn let_one(w: usize, q: usize, k: usize, after: u32, kept: &mut [u32; 1536])
-    requires { ⌜ TwoWorkers w q × (k < 1024) ⌝ }
-    ensures { λ r. ⌜ LetOne w q k after (now (kept .entry)) (now (kept .exit)) ⌝ }
-{
-    let at = 32 * w + k / 32;
-    kept[at] = words::without(kept[at], (k % 32) as u32);
-    kept[768 + 16 * w + q] = after;
 }
 
 // Takes into w's set those of q's operations that a is the first of w's not to be certain before.
@@ -135,18 +84,20 @@ fn take_in(
 )
     requires { ⌜ Place (now file) (now table) (now next) p n a w
         × (q < p)
-        × Turn (traceOf (now file)) a w q (now kept) ⌝ }
+        × Turn (traceOf (now file)) a w q (now kept)
+        × OtherRanks (traceOf (now file)) (now table) w q (now kept) ⌝ }
     ensures { λ r. ⌜ Turn (traceOf (now (file .entry))) a w q (now (kept .exit))
-        × Ahead (traceOf (now (file .entry))) a q (highOf (now (kept .exit)) w q) ⌝ }
+        × Ahead (traceOf (now (file .entry))) a q (highOf (now (kept .exit)) w q)
+        × OtherRanks (traceOf (now (file .entry))) (now (table .entry)) w q (now (kept .exit)) ⌝ }
 {
-    let bound = entry(table, p, a, q);
-    let mut k = high_end(kept, w, q);
-    let mut due = rank(table, p, n, k, q);
+    let bound = pair::entry(table, p, a, q);
+    let mut k = pair::high_end(kept, w, q);
+    let mut due = pair::rank(table, p, n, k, q);
     while due < bound {
         let after = next[k];
-        take_one(w, q, k, after, kept);
+        pair::take_one(w, q, k, after, kept);
         k = basics::wide_index(after);
-        due = rank(table, p, n, k, q);
+        due = pair::rank(table, p, n, k, q);
     }
 }
 
@@ -165,19 +116,99 @@ fn let_out(
     requires { ⌜ Place (now file) (now table) (now next) p n a w
         × (q < p)
         × Turn (traceOf (now file)) a w q (now kept)
-        × Ahead (traceOf (now file)) a q (highOf (now kept) w q) ⌝ }
-    ensures { λ r. ⌜ Turn (traceOf (now (file .entry))) a w (q + 1) (now (kept .exit)) ⌝ }
+        × Ahead (traceOf (now file)) a q (highOf (now kept) w q)
+        × OtherRanks (traceOf (now file)) (now table) w q (now kept) ⌝ }
+    ensures { λ r. ⌜ Turn (traceOf (now (file .entry))) a w (q + 1) (now (kept .exit))
+        × OtherRanks (traceOf (now (file .entry))) (now (table .entry)) w q (now (kept .exit)) ⌝ }
 {
-    let bound = entry(table, p, a, w);
-    let high = high_end(kept, w, q);
-    let mut k = low_end(kept, w, q);
-    let mut gone = rank(table, p, high, k, w);
+    let bound = pair::entry(table, p, a, w);
+    let high = pair::high_end(kept, w, q);
+    let mut k = pair::low_end(kept, w, q);
+    let mut gone = pair::rank(table, p, high, k, w);
     while gone <= bound {
         let after = next[k];
-        let_one(w, q, k, after, kept);
+        pair::let_one(w, q, k, after, kept);
         k = basics::wide_index(after);
-        gone = rank(table, p, high, k, w);
+        gone = pair::rank(table, p, high, k, w);
     }
+}
+
+// Keeps the ranks of both ends.
+fn keep_ranks(
+    file: &[u8],
+    table: &[u16],
+    next: &[u32; 1024],
+    p: usize,
+    n: usize,
+    a: usize,
+    w: usize,
+    q: usize,
+    kept: &mut [u32; 1536],
+)
+    requires { ⌜ Place (now file) (now table) (now next) p n a w
+        × (q < p)
+        × Turn (traceOf (now file)) a w (q + 1) (now kept)
+        × OtherRanks (traceOf (now file)) (now table) w q (now kept) ⌝ }
+    ensures { λ r. ⌜ Turn (traceOf (now (file .entry))) a w (q + 1) (now (kept .exit))
+        × AllRanks (traceOf (now (file .entry))) (now (table .entry)) (now (kept .exit)) ⌝ }
+{
+    let high = pair::high_end(kept, w, q);
+    let low = pair::low_end(kept, w, q);
+    let due = pair::rank(table, p, n, high, q);
+    let gone = pair::rank(table, p, high, low, w);
+    kept[1024 + 16 * w + q] = due;
+    kept[1280 + 16 * w + q] = gone;
+}
+
+// Moves the ends of w's set to where they are right for a.
+fn move_ends(
+    file: &[u8],
+    table: &[u16],
+    next: &[u32; 1024],
+    p: usize,
+    n: usize,
+    a: usize,
+    w: usize,
+    kept: &mut [u32; 1536],
+)
+    requires { ⌜ Place (now file) (now table) (now next) p n a w
+        × Carried (traceOf (now file)) (now table) a (now kept) ⌝ }
+    ensures { λ r. ⌜ Turn (traceOf (now (file .entry))) a w p (now (kept .exit))
+        × AllRanks (traceOf (now (file .entry))) (now (table .entry)) (now (kept .exit)) ⌝ }
+{
+    let mut q: usize = 0;
+    while q < p {
+        take_in(file, table, next, p, n, a, w, q, kept);
+        let_out(file, table, next, p, n, a, w, q, kept);
+        keep_ranks(file, table, next, p, n, a, w, q, kept);
+        q += 1;
+    }
+}
+
+// 0 where no end of w's set has to move for a.
+fn any_moves(
+    file: &[u8],
+    table: &[u16],
+    next: &[u32; 1024],
+    p: usize,
+    n: usize,
+    a: usize,
+    w: usize,
+    kept: &[u32; 1536],
+) -> u32
+    requires { ⌜ Place (now file) (now table) (now next) p n a w ⌝ }
+    ensures { λ r. ⌜ (r ≡ 0 → AllStill (now (table .entry)) (now (kept .entry)) p a w) ⌝ }
+{
+    let own = pair::entry(table, p, a, w);
+    let mut any: u32 = 0;
+    let mut q: usize = 0;
+    while q < p {
+        let due = pair::kept_due(kept, w, q);
+        let gone = pair::kept_gone(kept, w, q);
+        any |= pair::moves_bit(pair::entry(table, p, a, q), due, own, gone);
+        q += 1;
+    }
+    any
 }
 
 // Carries the set of a's worker on to a, whose turn it is.
@@ -185,17 +216,15 @@ pub fn carry_on(file: &[u8], table: &[u16], next: &[u32; 1024], a: usize, kept: 
     requires { ⌜ HoldsTable (now file) (now table)
         × HoldsNext (traceOf (now file)) (now next)
         × (a < size (traceOf (now file)))
-        × Kept (traceOf (now file)) a (now kept) ⌝ }
-    ensures { λ r. ⌜ Kept (traceOf (now (file .entry))) (a + 1) (now (kept .exit))
+        × Carried (traceOf (now file)) (now table) a (now kept) ⌝ }
+    ensures { λ r. ⌜ Carried (traceOf (now (file .entry))) (now (table .entry)) (a + 1) (now (kept .exit))
         × Now (traceOf (now (file .entry))) a (now (kept .exit)) ⌝ }
 {
     let p = trace::worker_count(file) as usize;
     let n = trace::operation_count(file) as usize;
     let w = basics::byte_index(trace::worker_of(file, a));
-    let mut q: usize = 0;
-    while q < p {
-        take_in(file, table, next, p, n, a, w, q, kept);
-        let_out(file, table, next, p, n, a, w, q, kept);
-        q += 1;
+    if any_moves(file, table, next, p, n, a, w, kept) == 0 {
+        return;
     }
+    move_ends(file, table, next, p, n, a, w, kept);
 }

@@ -55,6 +55,9 @@ pub fn list(x: u32, first: usize, at: usize, row: &mut [u16; 1024]) -> usize
     requires { ⌜ Room first at (now row) ⌝ }
     ensures { λ r. ⌜ Listed x first at (now (row .entry)) (now (row .exit)) r ⌝ }
 {
+    if x < 1 {
+        return at;
+    }
     let mut end = at;
     let mut i: u32 = 0;
     while i < 32 {

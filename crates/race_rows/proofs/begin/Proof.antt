@@ -10,7 +10,7 @@ read-cells-requires c κs = search needs
 
 begin-requires : tie.Need-begin-requires
 begin-requires c κs =
-    let pre = c .before .before .before .before .before .pre in
+    let pre = c .before .before .before .before .before .before .pre in
     (pre .0, pre .1 .next-long, pre .1 .kept-none (omega arith))
 
 forget-all-requires : tie.Need-forget-all-requires
@@ -23,7 +23,7 @@ returns c =
     record {
       cells-hold = c5 .read-cells .ensures;
       next-holds = c2 .begin .ensures .0;
-      kept-holds = c2 .begin .ensures .1;
+      carried = c2 .begin .ensures .1 _;
       notes = forgotten-notes _ (c .forget-all .ensures);
     }
 

@@ -1,42 +1,43 @@
 -- `count_row` meets its contract. Assumes nothing.
-use mathlib.Core.Path.{_∙_}
-use Rattle.table_entries.proofs.TableEntries.{table-reads}
-use Rattle.race_rows.proofs.RowOpening.{open-ready, open-on}
+use mathlib.Core.Path.{sym, ap, _∙_}
+use lib.ListN.{length}
+use Rattle.trace.specs.Trace.{isAccess}
+use Rattle.trace.specs.declared.Operation.{Operation}
+use Rattle.race_rows.proofs.RowOpening.{row-no-access}
 use borrow.Author.Needs.{needs}
 use Rattle.race_rows.proofs.count_row.Statement.{statement}
 use Rattle.race_rows.proofs.count_row.Tie as tie
 
-open-row-requires : tie.Need-open-row-requires
-open-row-requires c κs = search needs
+operation-of-requires : tie.Need-operation-of-requires
+operation-of-requires c κs = search needs
 
-worker-of-requires : tie.Need-worker-of-requires
-worker-of-requires c κs = search needs
+is-access-requires : tie.Need-is-access-requires
+is-access-requires c κs = search needs
 
-byte-index-requires : tie.Need-byte-index-requires
-byte-index-requires c κs = search needs
-
-count-words-requires : tie.Need-count-words-requires
-count-words-requires c κs =
-    let c3 = c .before .before .before in
-    let c4 = c3 .before in
-    let c5 = c4 .before in
-    let holds = c5 .before .before .before .before .before .before .before .pre .0 .holds in
-    (
-      open-ready holds (c5 .open-row .ensures) (c3 .byte-index .ensures .0 ∙ c4 .worker-of .ensures),
-      table-reads holds,
-    )
+count-open-requires : tie.Need-count-open-requires
+count-open-requires c κs = search needs
 
 returns : tie.Need-returns
-returns c =
-    let c6 = c .before .before .before .before .before .before in
-    (c .count-words .ensures, open-on (c6 .before .before .before .before .before .before .before .pre .0 .holds) (c6 .open-row .ensures))
+returns c = search needs
+
+pass-over-requires : tie.Need-pass-over-requires
+pass-over-requires c κs = search needs
+
+returns-2 : tie.Need-returns-2
+returns-2 c =
+    let c5 = c .before .before .before .before .before in
+    let c6 = c5 .before in
+    let kind = ap (λ (o : Operation). isAccess (o .kind)) (c6 .before .operation-of .ensures) in
+    let none = row-no-access _ _ (sym kind ∙ sym (c6 .is-access .ensures) ∙ c5 .if1 .left) in
+    (sym (ap length none), c .pass-over .ensures)
 
 pub count-row-spec : {M : Type 1} → statement M
 count-row-spec =
     tie.close
     (tie.spec
-    open-row-requires
-    worker-of-requires
-    byte-index-requires
-    count-words-requires
-    returns)
+    operation-of-requires
+    is-access-requires
+    count-open-requires
+    returns
+    pass-over-requires
+    returns-2)

@@ -1,42 +1,53 @@
 -- `list_row` meets its contract. Assumes nothing.
-use mathlib.Core.Path.{_∙_}
-use Rattle.table_entries.proofs.TableEntries.{table-reads}
-use Rattle.race_rows.proofs.RowOpening.{open-ready, open-row-on}
+use mathlib.Core.Bool.{_&&_}
+use mathlib.Core.Path.{sym, ap, _∙_}
+use lib.Dec.{ltb}
+use Rattle.trace.specs.Trace.{isAccess}
+use Rattle.trace.specs.declared.Operation.{Operation}
+use Rattle.race_rows.proofs.RowOpening.{row-known, row-empty}
 use borrow.Author.Needs.{needs}
 use Rattle.race_rows.proofs.list_row.Statement.{statement}
 use Rattle.race_rows.proofs.list_row.Tie as tie
 
-open-row-requires : tie.Need-open-row-requires
-open-row-requires c κs = search needs
+operation-of-requires : tie.Need-operation-of-requires
+operation-of-requires c κs = search needs
 
-worker-of-requires : tie.Need-worker-of-requires
-worker-of-requires c κs = search needs
+is-access-requires : tie.Need-is-access-requires
+is-access-requires c κs = search needs
 
-byte-index-requires : tie.Need-byte-index-requires
-byte-index-requires c κs = search needs
+both-requires : tie.Need-both-requires
+both-requires c κs = search needs
 
-list-words-requires : tie.Need-list-words-requires
-list-words-requires c κs =
-    let c4 = c .before .before .before .before in
-    let c5 = c4 .before in
-    let c6 = c5 .before in
-    let pre = c6 .before .before .before .before .before .before .before .pre .0 in
-    let holds = pre .counts-at .holds in
-    (
-      open-ready holds (c6 .open-row .ensures) (c4 .byte-index .ensures .0 ∙ c5 .worker-of .ensures),
-      table-reads holds,
-      pre .row-long,
-    )
+list-open-requires : tie.Need-list-open-requires
+list-open-requires c κs = search needs
 
 returns : tie.Need-returns
-returns c =
-    let c7 = c .before .before .before .before .before .before .before in
-    (
-      c .list-words .ensures,
-      open-row-on (c7 .before .before .before .before .before .before .before .pre .0 .counts-at .holds) (c7 .open-row .ensures) (c .list-words .ensures),
-    )
+returns c = search needs
+
+pass-over-requires : tie.Need-pass-over-requires
+pass-over-requires c κs = search needs
+
+returns-2 : tie.Need-returns-2
+returns-2 c =
+    let c5 = c .before .before .before .before .before in
+    let c6 = c5 .before in
+    let c7 = c6 .before in
+    let c8 = c7 .before in
+    let start = c8 .before .before .before in
+    let pre = start .pre in
+    let kind = ap (λ (o : Operation). isAccess (o .kind)) (c8 .operation-of .ensures) in
+    let tests = ap (λ r. ltb 0 (start .args .some) && r) (c7 .is-access .ensures ∙ kind) in
+    let none = row-known _ _ (start .args .some) (pre .2) (sym tests ∙ sym (c6 .both .ensures) ∙ c5 .if1 .left) in
+    (row-empty (pre .0 .row-long) none, record { counts-at = c .pass-over .ensures; row-long = pre .0 .row-long })
 
 pub list-row-spec : {M : Type 1} → statement M
 list-row-spec =
     tie.close
-    (tie.spec open-row-requires worker-of-requires byte-index-requires list-words-requires returns)
+    (tie.spec
+    operation-of-requires
+    is-access-requires
+    both-requires
+    list-open-requires
+    returns
+    pass-over-requires
+    returns-2)

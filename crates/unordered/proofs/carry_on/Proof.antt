@@ -1,103 +1,89 @@
--- `carry_on` meets its contract. The invariant: the ends of the workers below q are right for a. Assumes nothing.
-use mathlib.Core.Path.{sym, _∙_}
-use native.Mathlib.Omega.{arith}
-use Prim.Native.Nat.{_-_, _≤_}
-use borrow.Author.Needs.{needs}
-use Rattle.trace.specs.Reading.{traceOf}
+-- `carry_on` meets its contract: where nothing moves, the ends are right for a as they are. Assumes nothing.
+use borrow.Author.Tests.{eqb-true}
 use Rattle.table_entries.proofs.TableEntries.{table-reads}
-use Rattle.unordered.specs.Turns.{Place, Turn}
-use Rattle.unordered.proofs.Results.{turn-start, turn-done}
+use Rattle.unordered.proofs.Entries.{placed}
+use Rattle.unordered.proofs.Results.{turn-done}
+use Rattle.unordered.proofs.StillEnds.{still-done}
+use borrow.Author.Needs.{needs}
 use Rattle.unordered.proofs.carry_on.Statement.{statement}
 use Rattle.unordered.proofs.carry_on.Tie as tie
 
-abbrev Inv-loop : tie.InvT-loop
-Inv-loop file table next a kept₀ p n w q₀ kept q =
-    Place file table next p n a w × (q ≤ p) × Turn (traceOf file) a w q kept
-
-abbrev μ-loop : tie.MeasureT-loop
-μ-loop file table next a kept₀ p n w q₀ kept q = p - q
-
-worker-count-requires : tie.Need-worker-count-requires Inv-loop μ-loop
+worker-count-requires : tie.Need-worker-count-requires
 worker-count-requires c κs = table-reads (c .before .before .pre .0)
 
-cast-p : tie.Need-cast-p Inv-loop μ-loop
+cast-p : tie.Need-cast-p
 cast-p c = search needs
 
-operation-count-requires : tie.Need-operation-count-requires Inv-loop μ-loop
+operation-count-requires : tie.Need-operation-count-requires
 operation-count-requires c κs = table-reads (c .before .before .before .pre .0)
 
-cast-n : tie.Need-cast-n Inv-loop μ-loop
+cast-n : tie.Need-cast-n
 cast-n c = search needs
 
-worker-of-requires : tie.Need-worker-of-requires Inv-loop μ-loop
-worker-of-requires c κs = c .before .before .before .before .pre .2
+worker-of-requires : tie.Need-worker-of-requires
+worker-of-requires c κs = search needs
 
-byte-index-requires : tie.Need-byte-index-requires Inv-loop μ-loop
+byte-index-requires : tie.Need-byte-index-requires
 byte-index-requires c κs = search needs
 
-loop-holds : tie.Need-loop-holds Inv-loop μ-loop
-loop-holds c =
+any-moves-requires : tie.Need-any-moves-requires
+any-moves-requires c κs =
     let c1 = c .before in
     let c2 = c1 .before in
     let c3 = c2 .before in
-    let c6 = c3 .before .before .before in (
-      record {
-        holds = c6 .pre .0;
-        nexts = c6 .pre .1;
-        workers = c3 .worker-count .ensures;
-        count = c2 .operation-count .ensures;
-        turn = record { below = c6 .pre .2; worker = sym (c1 .worker-of .ensures) ∙ sym (c .byte-index .ensures .0) };
-      },
-      omega arith,
-      turn-start (c6 .pre .3),
-    )
+    let c4 = c3 .before in
+    let c7 = c4 .before .before .before in
+    placed (c7 .pre .0, c7 .pre .1) (c7 .pre .2) (c4 .worker-count .ensures) (c3 .operation-count .ensures)
+    (c2 .worker-of .ensures) (c1 .byte-index .ensures .0)
 
-take-in-requires : tie.Need-take-in-requires Inv-loop μ-loop
-take-in-requires c κs =
-    let c1 = c .before in
-    let c2 = c1 .before in
-    (c2 .loop .inv .0, c1 .loop-test .taken, c2 .loop .inv .2)
-
-let-out-requires : tie.Need-let-out-requires Inv-loop μ-loop
-let-out-requires c κs =
+returns : tie.Need-returns
+returns c =
     let c1 = c .before in
     let c3 = c1 .before .before in
     let c4 = c3 .before in
-    (c4 .loop .inv .0, c3 .loop-test .taken, c1 .take-in .ensures .0, c1 .take-in .ensures .1)
+    let c5 = c4 .before in
+    let c6 = c5 .before in
+    let c9 = c6 .before .before .before in
+    let place =
+    placed (c9 .pre .0, c9 .pre .1) (c9 .pre .2) (c6 .worker-count .ensures) (c5 .operation-count .ensures)
+    (c4 .worker-of .ensures) (c3 .byte-index .ensures .0) in
+    turn-done place (still-done place (c9 .pre .3) (c1 .any-moves .ensures (c .if1 .taken))) (c9 .pre .3 .ranks)
 
-add-q : tie.Need-add-q Inv-loop μ-loop
-add-q c = search needs
-
-loop-less : tie.Need-loop-less Inv-loop μ-loop
-loop-less c = search needs
-
-loop-again : tie.Need-loop-again Inv-loop μ-loop
-loop-again c =
+move-ends-requires : tie.Need-move-ends-requires
+move-ends-requires c κs =
     let c4 = c .before .before .before .before in
     let c5 = c4 .before in
-    (c5 .loop .inv .0, omega (arith, c4 .loop-test .taken), c .let-out .ensures)
+    let c6 = c5 .before in
+    let c7 = c6 .before in
+    let c10 = c7 .before .before .before in (
+      placed (c10 .pre .0, c10 .pre .1) (c10 .pre .2) (c7 .worker-count .ensures) (c6 .operation-count .ensures)
+          (c5 .worker-of .ensures) (c4 .byte-index .ensures .0),
+      c10 .pre .3,
+    )
 
-returns : tie.Need-returns Inv-loop μ-loop
-returns c =
-    let c1 = c .before in
-    turn-done (c1 .loop .inv .0) (c1 .loop .inv .1) (c .loop-test .left) (c1 .loop .inv .2)
+returns-2 : tie.Need-returns-2
+returns-2 c =
+    let c5 = c .before .before .before .before .before in
+    let c6 = c5 .before in
+    let c7 = c6 .before in
+    let c8 = c7 .before in
+    let c11 = c8 .before .before .before in
+    let place =
+    placed (c11 .pre .0, c11 .pre .1) (c11 .pre .2) (c8 .worker-count .ensures) (c7 .operation-count .ensures)
+    (c6 .worker-of .ensures) (c5 .byte-index .ensures .0) in
+    turn-done place (c .move-ends .ensures .0) (c .move-ends .ensures .1)
 
 pub carry-on-spec : {M : Type 1} → statement M
 carry-on-spec =
     tie.close
     (tie.spec
-    Inv-loop
-    μ-loop
     worker-count-requires
     cast-p
     operation-count-requires
     cast-n
     worker-of-requires
     byte-index-requires
-    loop-holds
-    take-in-requires
-    let-out-requires
-    add-q
-    loop-less
-    loop-again
-    returns)
+    any-moves-requires
+    returns
+    move-ends-requires
+    returns-2)

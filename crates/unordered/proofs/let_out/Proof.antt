@@ -32,7 +32,7 @@ rank-requires : tie.Need-rank-requires Inv-loop μ-loop
 rank-requires c κs =
     let c2 = c .before .before in
     let c7 = c2 .before .before .before .before .before in
-    low-row (c7 .pre .0) (c7 .pre .1) (c7 .pre .2) (c2 .high-end .ensures) (c .low-end .ensures)
+    low-row (c7 .pre .0) (c7 .pre .1) (c7 .pre .2 .state) (c2 .high-end .ensures) (c .low-end .ensures)
 
 loop-holds : tie.Need-loop-holds Inv-loop μ-loop
 loop-holds c =
@@ -45,6 +45,7 @@ loop-holds c =
       high-end = c3 .high-end .ensures;
       end = c1 .low-end .ensures;
       rank = c .rank .ensures;
+      ranks = c8 .pre .4;
     }
 
 mul-after : tie.Need-mul-after Inv-loop μ-loop
@@ -90,8 +91,9 @@ loop-less c =
     let c6 = c5 .before in
     let c12 = c6 .before .before .before .before .before .before in
     let c15 = c12 .before .before .before in
+    let taken = c5 .loop-test .taken in
     let next = c1 .wide-index .ensures .0 in
-    omega (arith, out-ahead (c15 .pre .0) (c15 .pre .1) (c6 .loop .inv) (c12 .entry .ensures .1) (c5 .loop-test .taken) next)
+    omega (arith, out-ahead (c15 .pre .0) (c15 .pre .1) (c6 .loop .inv) (c12 .entry .ensures .1) taken next)
 
 loop-again : tie.Need-loop-again Inv-loop μ-loop
 loop-again c =

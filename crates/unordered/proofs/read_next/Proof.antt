@@ -4,7 +4,7 @@ use native.Mathlib.Omega.{arith}
 use borrow.Author.Needs.{needs}
 use Rattle.trace.specs.Reading.{traceOf}
 use Rattle.unordered.specs.Beginning.{ReadFrom}
-use Rattle.unordered.proofs.Beginning.{read-few, read-known, read-start, read-more, read-end}
+use Rattle.unordered.proofs.NextOperations.{read-few, read-known, read-start, read-more, read-end}
 use Rattle.unordered.proofs.read_next.Statement.{statement}
 use Rattle.unordered.proofs.read_next.Tie as tie
 

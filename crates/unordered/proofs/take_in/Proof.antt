@@ -33,7 +33,7 @@ loop-holds : tie.Need-loop-holds Inv-loop μ-loop
 loop-holds c =
     let c1 = c .before in
     let c6 = c1 .before .before .before .before .before in
-    record { turn = c6 .pre .2; end = c1 .high-end .ensures; rank = c .rank .ensures }
+    record { turn = c6 .pre .2; end = c1 .high-end .ensures; rank = c .rank .ensures; ranks = c6 .pre .3 }
 
 mul-after : tie.Need-mul-after Inv-loop μ-loop
 mul-after c =
@@ -74,8 +74,9 @@ loop-less c =
     let c6 = c5 .before in
     let c10 = c6 .before .before .before .before in
     let c13 = c10 .before .before .before in
+    let taken = c5 .loop-test .taken in
     let next = c1 .wide-index .ensures .0 in
-    omega (arith, in-ahead (c13 .pre .0) (c13 .pre .1) (c6 .loop .inv) (c10 .entry .ensures .1) (c5 .loop-test .taken) next)
+    omega (arith, in-ahead (c13 .pre .0) (c13 .pre .1) (c6 .loop .inv) (c10 .entry .ensures .1) taken next)
 
 loop-again : tie.Need-loop-again Inv-loop μ-loop
 loop-again c =

@@ -1,8 +1,8 @@
 -- `rank` meets its contract. Assumes nothing.
 use mathlib.Core.Path.{sym, _∙_}
 use Rattle.unordered.proofs.Entries.{rank-inside, rank-past}
-use Rattle.unordered.proofs.rank.Statement.{statement}
-use Rattle.unordered.proofs.rank.Tie as tie
+use Rattle.unordered.proofs.pair.rank.Statement.{statement}
+use Rattle.unordered.proofs.pair.rank.Tie as tie
 
 entry-requires : tie.Need-entry-requires
 entry-requires c κs = c .before .before .pre (c .if1 .taken)
