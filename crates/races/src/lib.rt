@@ -136,7 +136,7 @@ fn write_rows(
     let mut at: usize = 0;
     let mut a: usize = 0;
     while a < n {
-        let count = race_rows::list_row_if(
+        let count = race_rows::list_row(
             file,
             table,
             a,

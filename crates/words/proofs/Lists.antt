@@ -11,8 +11,8 @@ use lib.Seq.{take-suc-set, take-set-le}
 use mir.Val.{boolByte}
 use Rattle.words.specs.Passing.{passing}
 use Rattle.words.specs.Words.{isIn, raised, Room, Listed}
-use Rattle.words.proofs.Passing.{passing-more, passing-same, passing-count, passing-zero}
-use Rattle.words.proofs.Sets.{in-bit}
+use Rattle.words.proofs.Passing.{passing-more, passing-same, passing-none, passing-count, passing-zero}
+use Rattle.words.proofs.Sets.{in-bit, none-in}
 
 -- the numbers of x below i are listed
 pub record ListedBelow (x first at : ℕ) (row₀ : List ℕ) (i end : ℕ) (row : List ℕ) : Type 0 where
@@ -22,6 +22,17 @@ pub record ListedBelow (x first at : ℕ) (row₀ : List ℕ) (i end : ℕ) (row
   pub below : i ≤ 32
   pub counted : end ≡ at + length (passing (isIn x) i)
   pub front : take end row ≡ take at row₀ ++ raised first (passing (isIn x) i)
+
+-- of the empty set there is nothing to list
+pub list-none : {x first at : ℕ} {row : List ℕ} → Room first at row → x < 1 → Listed x first at row row at
+list-none {x} {at = at} {row} r l =
+    let e : x ≡ 0 = omega arith in
+    let none : passing (isIn x) 32 ≡ [] = rw e (passing-none (isIn 0) 32 (λ k m. none-in k)) in
+    record {
+      long = r .long;
+      counted = rw none (omega arith);
+      front = rw none (sym (append-nil (take at row)));
+    }
 
 pub list-start : (x : ℕ) {first at : ℕ} {row : List ℕ} → Room first at row → ListedBelow x first at row 0 at row
 unfolding passing

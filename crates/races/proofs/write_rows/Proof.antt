@@ -31,18 +31,18 @@ loop-holds c =
     let pre = c .before .before .before .before .before .pre in
     (rows-none _ _ _, rows-start (pre .0) (search needs) (search needs) (search needs) (search needs))
 
-mul-list-row-if : tie.Need-mul-list-row-if Inv-loop μ-loop
-mul-list-row-if c =
+mul-list-row : tie.Need-mul-list-row Inv-loop μ-loop
+mul-list-row c =
     let c2 = c .before .before in
     omega (arith, c .loop-test .taken, c2 .operation-count .ensures, table-short (c2 .before .before .before .before .before .pre .0))
 
-element-copy-out-list-row-if : tie.Need-element-copy-out-list-row-if Inv-loop μ-loop
-element-copy-out-list-row-if c =
+element-copy-out-list-row : tie.Need-element-copy-out-list-row Inv-loop μ-loop
+element-copy-out-list-row c =
     let c2 = c .before .before in
     omega (arith, c .loop-test .taken, c2 .operation-count .ensures, table-short (c2 .before .before .before .before .before .pre .0))
 
-list-row-if-requires : tie.Need-list-row-if-requires Inv-loop μ-loop
-list-row-if-requires c κs =
+list-row-requires : tie.Need-list-row-requires Inv-loop μ-loop
+list-row-requires c κs =
     let c6 = c .before .before .before .before .before .before in
     let c7 = c6 .before in
     let c8 = c7 .before in
@@ -65,7 +65,7 @@ fill-requires c κs =
     let c10 = c9 .before in
     let e = c10 .operation-count .ensures in
     let inv = c9 .loop .inv .0 in
-    let room = rows-room inv (omega (arith, e, c8 .loop-test .taken)) (c1 .list-row-if .ensures .0) in
+    let room = rows-room inv (omega (arith, e, c8 .loop-test .taken)) (c1 .list-row .ensures .0) in
     omega (arith, room, c10 .before .before .before .before .before .pre .2, inv .low .size)
 
 copy-requires : tie.Need-copy-requires Inv-loop μ-loop
@@ -76,7 +76,7 @@ copy-requires c κs =
     let c15 = c14 .before in
     let e = c15 .operation-count .ensures in
     let inv = c14 .loop .inv .0 in
-    let listed = c6 .list-row-if .ensures .0 in
+    let listed = c6 .list-row .ensures .0 in
     let room = rows-room inv (omega (arith, e, c13 .loop-test .taken)) listed in
     (omega (arith, room, c15 .before .before .before .before .before .pre .3, inv .high .size), listed .few, listed .long)
 
@@ -87,7 +87,7 @@ add-at c =
     let c17 = c16 .before in
     let c18 = c17 .before in
     let e = c18 .operation-count .ensures in
-    let listed = c9 .list-row-if .ensures .0 in
+    let listed = c9 .list-row .ensures .0 in
     let room = rows-room (c17 .loop .inv .0) (omega (arith, e, c16 .loop-test .taken)) listed in
     omega (arith, room, table-few (c18 .before .before .before .before .before .pre .0))
 
@@ -106,7 +106,7 @@ loop-again c =
     let c17 = c16 .before in
     let c18 = c17 .before in
     let pre = c18 .before .before .before .before .before .pre in
-    let (listed, on) = c9 .list-row-if .ensures in
+    let (listed, on) = c9 .list-row .ensures in
     (
       rows-more (c17 .loop .inv .0) (omega (arith, c18 .operation-count .ensures, c16 .loop-test .taken)) listed (pre .2)
       (pre .3) (c7 .fill .ensures) (c2 .copy .ensures),
@@ -140,9 +140,9 @@ write-rows-spec =
     operation-count-requires
     cast-n
     loop-holds
-    mul-list-row-if
-    element-copy-out-list-row-if
-    list-row-if-requires
+    mul-list-row
+    element-copy-out-list-row
+    list-row-requires
     cast-fill
     fill-requires
     copy-requires

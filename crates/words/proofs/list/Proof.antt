@@ -2,7 +2,7 @@
 use native.Mathlib.Omega.{arith}
 use Prim.Native.Nat.{_-_}
 use borrow.Author.Needs.{needs}
-use Rattle.words.proofs.Lists.{ListedBelow, list-start, list-inside, list-more, list-end}
+use Rattle.words.proofs.Lists.{ListedBelow, list-none, list-start, list-inside, list-more, list-end}
 use Rattle.words.proofs.list.Statement.{statement}
 use Rattle.words.proofs.list.Tie as tie
 
@@ -12,17 +12,20 @@ Inv-loop x first at row₀ end₀ i₀ row end i = ListedBelow x first at row₀
 abbrev μ-loop : tie.MeasureT-loop
 μ-loop x first at row₀ end₀ i₀ row end i = 32 - i
 
+returns : tie.Need-returns Inv-loop μ-loop
+returns c = list-none (c .before .pre) (c .if1 .taken)
+
 loop-holds : tie.Need-loop-holds Inv-loop μ-loop
-loop-holds c = list-start (c .args .x) (c .pre)
+loop-holds c = list-start (c .before .args .x) (c .before .pre)
 
 wide-index-requires : tie.Need-wide-index-requires Inv-loop μ-loop
 wide-index-requires c κs = search needs
 
 add-row : tie.Need-add-row Inv-loop μ-loop
-add-row c = omega (arith, c .wide-index .ensures .0, c .before .before .before .pre .few, c .before .loop-test .taken)
+add-row c = omega (arith, c .wide-index .ensures .0, c .before .before .before .before .pre .few, c .before .loop-test .taken)
 
 cast-row : tie.Need-cast-row Inv-loop μ-loop
-cast-row c = omega (arith, c .wide-index .ensures .0, c .before .before .before .pre .few, c .before .loop-test .taken)
+cast-row c = omega (arith, c .wide-index .ensures .0, c .before .before .before .before .pre .few, c .before .loop-test .taken)
 
 mul-row : tie.Need-mul-row Inv-loop μ-loop
 mul-row c = omega (arith, list-inside (c .before .before .loop .inv) (c .before .loop-test .taken))
@@ -54,8 +57,8 @@ loop-again c =
     let c2 = c1 .before in
     list-more (c2 .before .loop .inv) (c2 .loop-test .taken) (c1 .wide-index .ensures .0) (c .wide-index2 .ensures .0)
 
-returns : tie.Need-returns Inv-loop μ-loop
-returns c = list-end (c .before .loop .inv) (c .loop-test .left)
+returns-2 : tie.Need-returns-2 Inv-loop μ-loop
+returns-2 c = list-end (c .before .loop .inv) (c .loop-test .left)
 
 pub list-spec : {M : Type 1} → statement M
 list-spec =
@@ -63,6 +66,7 @@ list-spec =
     (tie.spec
     Inv-loop
     μ-loop
+    returns
     loop-holds
     wide-index-requires
     add-row
@@ -75,4 +79,4 @@ list-spec =
     add-i
     loop-less
     loop-again
-    returns)
+    returns-2)
