@@ -120,8 +120,9 @@ module _ {M : Type 1} {𝓤 : URA M} {H : Heap 𝓤} {A : Atoms 𝓤} {K : Type 
       pick t (λ v. split t $ forget t 0 refl $ move t (1 ∷ []) $ drop t $ k))
 
 -- n times one element of plain data, whose machine value is u
-module _ {M : Type 1} (𝓤 : URA M) (H : Heap 𝓤) (A : Atoms 𝓤) (W : Given 𝓤 H A) (R : RattleType) (lawful : Lawful 𝓤 H A R)
-    (makes : Makes 𝓤 H A R (Is R)) (n : ℕ) (x : R .Denot) (u : Val) (is : Is R x (u ∷ [])) where
+module _ {M : Type 1} (𝓤 : URA M) (H : Heap 𝓤) (A : Atoms 𝓤) (W : Given 𝓤 H A) (R : RattleType)
+    (lawful : Lawful 𝓤 H A R) (makes : Makes 𝓤 H A R (Is R)) (n : ℕ) (x : R .Denot) (u : Val)
+    (is : Is R x (u ∷ [])) where
   each-is : (k : ℕ) → shadow (each (R .Denot) (R .own) (replicate k x) (replicate k u))
   each-is zero = tt
   each-is (suc k) = (is, each-is k)

@@ -1,5 +1,5 @@
--- A row of elements in memory that is lent as a `&κ mut [T]`, and comes back. It says nothing of the crate. The count is
--- a number m that is the list's length, so that a machine value that was written before the list changed serves.
+-- A row of elements in memory that is lent as a `&κ mut [T]`, and comes back. It says nothing of the crate. The count
+-- is a number m that is the list's length, so that a machine value that was written before the list changed serves.
 --     LentRow      what the lender keeps while it is lent under the name γ
 --     lends-row    given `Room`: the row of ys ⊢ ⇛ ∃ γ. own (the `&κ mut [T]` ((b, o), γ, ys)) ∗ LentRow γ
 --     row-back     [†κ] ∗ LentRow γ ∗ finally γ zs ⊢ ⇛ the row of zs

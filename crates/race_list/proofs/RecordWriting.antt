@@ -1,5 +1,5 @@
--- Writing races as records. In order: a row of races, for the loop over it; all races, row by row, for the loop over the
--- rows; what is left to be written, for the call.
+-- Writing races as records. In order: a row of races, for the loop over it; all races, row by row, for the loop over
+-- the rows; what is left to be written, for the call.
 use mathlib.Core.List.{List, [], _∷_, _++_, map, append-assoc, append-nil}
 use mathlib.Core.Logic.{inl, inr}
 use mathlib.Core.Path.{_≡_, refl, sym, ap, _∙_}
@@ -16,9 +16,10 @@ use Rattle.lent.proofs.Writing.{Written, written-by}
 use Rattle.race_model.specs.declared.Race.{Race}
 use Rattle.race_model.specs.RaceList.{pair, racesBelow, raceList, raceCount}
 use Rattle.table_entries.proofs.TableEntries.{table-short}
-use Rattle.race_rows.specs.Rows.{raceRow, RowHolds, RowsAt}
+use Rattle.race_model.specs.RaceRows.{raceRow, RowHolds}
 use Rattle.race_model.proofs.RowLists.{row-count, below-start, below-next, below-all, below-count, below-few}
-use Rattle.race_rows.proofs.RowStart.{rows-start}
+use Rattle.race_rows.specs.Rows.{RowsAt}
+use Rattle.race_rows.proofs.RowNotes.{rows-start}
 use Rattle.races.specs.declared.RacesAnswer.{RacesAnswer}
 use Rattle.races.specs.Premises.{Writable}
 use Rattle.races.specs.Races.{toWrite, CountCall}
@@ -179,7 +180,8 @@ module _ {bytes table : List ℕ} {count : ℕ} (can : Writable bytes table coun
             pasted-written (races row) (races (raceRow t (d .a))) written-below long front (omega (arith, row-few)) in
             rw (add-one, below-next t (d .a)) (more .whole)
 
-        abbrev pub row-done : (notes kept : List ℕ) → RowsAt bytes table (d .a + 1) notes kept row → RowsDone bytes table count
+        abbrev pub row-done : (notes kept : List ℕ) → RowsAt bytes table (d .a + 1) notes kept row
+            → RowsDone bytes table count
         row-done notes kept ready =
             record {
               a = d .a + 1;

@@ -321,3 +321,23 @@ pub fn list_row(
     pass_over(file, table, a, cells, next, kept, seen);
     0
 }
+
+// The same, of which nothing is known.
+pub fn next_row(
+    file: &[u8],
+    table: &[u16],
+    a: usize,
+    cells: &mut [u32; 2080],
+    next: &mut [u32; 1024],
+    kept: &mut [u32; 1536],
+    seen: &mut [u32; 1120],
+    row: &mut [u16; 1024],
+) -> usize
+    requires { ⌜ RowsAt (now file) (now table) a (now cells) (now next) (now kept) (now seen) (now row)
+        × (a < size (traceOf (now file))) ⌝ }
+    ensures { λ r. ⌜ RowHolds (raceRow (traceOf (now (file .entry))) a) r (now (row .exit))
+        × RowsAt (now (file .entry)) (now (table .entry)) (a + 1) (now (cells .exit)) (now (next .exit))
+        (now (kept .exit)) (now (seen .exit)) (now (row .exit)) ⌝ }
+{
+    list_row(file, table, a, 1, cells, next, kept, seen, row)
+}

@@ -296,7 +296,7 @@ module _ {M : Type 1} (𝓤 : URA M) (H : Heap 𝓤) (A : Atoms 𝓤) (W : Given
         -- call
         lft-new ! tt (λ ν. move ! (5 ∷ 2 ∷ []) $
         use2 W (later (some (λ (δ : GName). ‵ (lentT ν δ) ⊛ ‵ (LentAgain u16 κ (ν ∷ []) q γ b o δ t))))
-        (lends-again u16 κ (ν ∷ []) q γ b o 𝓤 H A W (named 1) (named 1) t) $
+        (lends-again u16 κ (ν ∷ []) q γ b o 𝓤 H A W (named 1) (named 1) t room) $
         await ! tt $ pick ! (λ δ. split ! $
         -- [table lent again; its loan; ν's token; κ₂'s; κ₁'s; list; file; _13 at 7; …]
         move ! (6 ∷ []) $ use1 W (‵ ownF ⊛ ‵ ownF) (shr-slice-copy 𝓤 H A W (named 0) κ₁ u8 .twice file (vf ∷ [])) $
