@@ -74,8 +74,7 @@ module _ {t : Trace} {a count : ℕ} {counts : List ℕ} (c : Counted t a count 
 
   pub count-all : size t ≤ a → (count ≡ raceCount t) × Hints t counts
   count-all l =
-      let e : a ≡ size t = omega (arith, c .below) in
-      (
+      let e : a ≡ size t = omega (arith, c .below) in (
         c .sum ∙ rw e (ap length (below-all t)),
         record { long = c .long; none = λ k m z. no-length (raceRow t k) (sym (c .noted k (omega (arith, e))) ∙ z) },
       )

@@ -23,11 +23,10 @@ returns c =
     let c3 = c1 .before .before in
     let c4 = c3 .before in
     let c5 = c4 .before in
-    let c6 = c5 .before in
-    (
+    let c6 = c5 .before in (
       c6 .pre .0,
       slot-same (c3 .slot-of .ensures) (sym (c1 .is-for .ensures) ∙ c .if1 .taken) (c5 .first-of .ensures)
-      (c4 .last-of .ensures),
+          (c4 .last-of .ensures),
     )
 
 add-seen : tie.Need-add-seen
@@ -62,8 +61,7 @@ returns-2 c =
     let c3 = c .before .before .before in
     let c4 = c3 .before in
     let c5 = c4 .before in
-    let c6 = c5 .before in
-    (
+    let c6 = c5 .before in (
       taken-notes (c6 .pre .0) (c3 .slot-of .ensures) _ _,
       taken-for (c6 .pre .0) (c3 .slot-of .ensures) _ _ (c5 .first-of .ensures) (c4 .last-of .ensures),
     )

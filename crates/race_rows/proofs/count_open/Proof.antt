@@ -20,8 +20,7 @@ count-words-requires c κs =
     let c3 = c .before .before .before in
     let c4 = c3 .before in
     let c5 = c4 .before in
-    let holds = c5 .before .before .before .before .before .before .before .pre .0 .holds in
-    (
+    let holds = c5 .before .before .before .before .before .before .before .pre .0 .holds in (
       open-ready holds (c5 .open-row .ensures) (c3 .byte-index .ensures .0 ∙ c4 .worker-of .ensures),
       table-reads holds,
     )

@@ -21,8 +21,7 @@ list-words-requires c κs =
     let c5 = c4 .before in
     let c6 = c5 .before in
     let pre = c6 .before .before .before .before .before .before .before .pre .0 in
-    let holds = pre .counts-at .holds in
-    (
+    let holds = pre .counts-at .holds in (
       open-ready holds (c6 .open-row .ensures) (c4 .byte-index .ensures .0 ∙ c5 .worker-of .ensures),
       table-reads holds,
       pre .row-long,
@@ -30,8 +29,7 @@ list-words-requires c κs =
 
 returns : tie.Need-returns
 returns c =
-    let c7 = c .before .before .before .before .before .before .before in
-    (
+    let c7 = c .before .before .before .before .before .before .before in (
       c .list-words .ensures,
       open-row-on (c7 .before .before .before .before .before .before .before .pre .0 .counts-at .holds) (c7 .open-row .ensures) (c .list-words .ensures),
     )

@@ -31,8 +31,7 @@ row-word-requires : tie.Need-row-word-requires Inv-loop μ-loop
 row-word-requires c κs =
     let c1 = c .before in
     let c2 = c1 .before in
-    let ready = c2 .before .before .pre .0 in
-    (
+    let ready = c2 .before .before .pre .0 in (
       ready,
       omega (arith, c .loop-test .taken, c2 .operation-count .ensures, ready .to-note .few),
       c1 .loop .inv .0 .from,
@@ -61,8 +60,7 @@ loop-again c =
     let c3 = c2 .before in
     let c4 = c3 .before in
     let c5 = c4 .before in
-    let few = c5 .before .before .pre .0 .to-note .few in
-    (
+    let few = c5 .before .before .pre .0 .to-note .few in (
       listed-more (c4 .loop .inv .0) (c2 .row-word .ensures) (c .list .ensures),
       omega (arith, c3 .loop-test .taken, c5 .operation-count .ensures, few),
     )

@@ -33,8 +33,7 @@ note-free-requires c κs =
     let c1 = c .before in
     let c2 = c1 .before in
     let c3 = c2 .before in
-    let h = c3 .before .before .pre .0 in
-    (
+    let h = c3 .before .before .pre .0 in (
       c2 .loop .inv .0 .notes,
       h .known,
       h .slot-for .few,
@@ -52,8 +51,7 @@ loop-again c =
     let c2 = c .before .before in
     let c3 = c2 .before in
     let c4 = c3 .before in
-    let few = c4 .before .before .pre .0 .few in
-    (
+    let few = c4 .before .before .pre .0 .few in (
       noting-more (c3 .loop .inv .0) (c .note-free .ensures),
       omega (arith, c2 .loop-test .taken, c4 .operation-count .ensures, few),
     )

@@ -34,10 +34,9 @@ note-row-requires c κs =
     let c5 = c4 .before in
     let c8 = c5 .before .before .before in
     let c11 = c8 .before .before .before in
-    let pre = c11 .before .before .before .before .before .before .before .pre in
-    (
+    let pre = c11 .before .before .before .before .before .before .before .pre in (
       row-to-note (pre .0 .holds) (pre .1) (c11 .begin-first .ensures) (c8 .carry-on .ensures) (c5 .slot-for .ensures)
-      (c3 .byte-index .ensures .0 ∙ c4 .worker-of .ensures),
+          (c3 .byte-index .ensures .0 ∙ c4 .worker-of .ensures),
       table-reads (pre .0 .holds),
     )
 

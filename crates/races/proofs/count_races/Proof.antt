@@ -74,10 +74,9 @@ loop-again c =
     let c5 = c .before .before .before .before .before in
     let c6 = c5 .before in
     let c7 = c6 .before in
-    let few = table-short (c7 .before .before .before .pre .0) in
-    (
+    let few = table-short (c7 .before .before .before .pre .0) in (
       count-more (c6 .loop .inv .0) few (omega (arith, c5 .loop-test .taken, c7 .operation-count .ensures))
-      (c .count-row .ensures .0),
+          (c .count-row .ensures .0),
       c .count-row .ensures .1,
     )
 

@@ -19,8 +19,7 @@ returns c =
     let c1 = c .before in
     let c4 = c1 .before .before .before in
     let few = races-pairs _ (accepted-workers (c4 .pre .0 .accepted)) in
-    let e = c1 .pair-count .ensures in
-    (
+    let e = c1 .pair-count .ensures in (
       rw (le-leb (raceCount (traceOf (c4 .args .file .now))) (c4 .args .room) (omega (arith, few, e, c .if1 .taken))),
       c4 .pre .1,
     )

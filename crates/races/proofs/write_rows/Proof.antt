@@ -106,10 +106,9 @@ loop-again c =
     let c17 = c16 .before in
     let c18 = c17 .before in
     let pre = c18 .before .before .before .before .before .pre in
-    let (listed, on) = c9 .list-row .ensures in
-    (
+    let (listed, on) = c9 .list-row .ensures in (
       rows-more (c17 .loop .inv .0) (omega (arith, c18 .operation-count .ensures, c16 .loop-test .taken)) listed (pre .2)
-      (pre .3) (c7 .fill .ensures) (c2 .copy .ensures),
+          (pre .3) (c7 .fill .ensures) (c2 .copy .ensures),
       on,
     )
 
