@@ -19,7 +19,7 @@ use Rattle.table_entries.proofs.TableEntries.{table-short}
 use Rattle.race_model.specs.RaceRows.{raceRow, RowHolds}
 use Rattle.race_model.proofs.RowLists.{row-count, below-start, below-next, below-all, below-count, below-few}
 use Rattle.race_rows.specs.Rows.{RowsAt}
-use Rattle.race_rows.proofs.RowNotes.{rows-start}
+use Rattle.race_rows.proofs.RowStart.{rows-start}
 use Rattle.races.specs.declared.RacesAnswer.{RacesAnswer}
 use Rattle.races.specs.Premises.{Writable}
 use Rattle.races.specs.Races.{toWrite, CountCall}

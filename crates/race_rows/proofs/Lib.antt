@@ -1,6 +1,3 @@
--- RaceWords: a word of races. RowLoops: a row of races, word by word. RowNotes:
--- noting what a row needs. RowOpening: a row is opened.
-pub mod RaceWords
-pub mod RowLoops
-pub mod RowNotes
+-- RowStart: how the arrays begin. RowOpening: a row is opened, or passed over.
+pub mod RowStart
 pub mod RowOpening

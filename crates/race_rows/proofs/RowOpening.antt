@@ -20,8 +20,9 @@ use Rattle.race_model.specs.RaceList.{isRace}
 use Rattle.race_model.specs.RaceRows.{raceRow, RowHolds}
 use Rattle.race_model.proofs.RaceTests.{race-access}
 use Rattle.words.proofs.Passing.{passing-none}
-use Rattle.race_rows.specs.Rows.{ToNote, RowReady, Searching, RowOpen, CountsAt, RowsAt}
-use Rattle.race_rows.proofs.RowNotes.{begun-on}
+use Rattle.race_words.specs.RaceWords.{ToNote, RowReady}
+use Rattle.race_rows.specs.Rows.{Searching, RowOpen, CountsAt, RowsAt}
+use Rattle.race_rows.proofs.RowStart.{begun-on}
 
 module _ {bytes table : List ℕ} (h : HoldsTable bytes table) {a : ℕ} (l : a < size (traceOf bytes))
     {cells next kept seen kept′ : List ℕ} (s : Searching (traceOf bytes) table a cells next kept seen)

@@ -1,2 +1,2 @@
--- Rows: what a row of races is found from, and its words; means.
+-- Rows: the arrays that the rows of races are found from; means.
 pub mod Rows

@@ -29,7 +29,8 @@ use Rattle.two_runs.specs.Runs.{runsReading, firstAfter, secondAfter}
 use Rattle.beginning.specs.Computed.{firstIndex, beginningLength, prefixOf, beginningOf}
 use Rattle.beginning.specs.Returned.{ofSecond}
 use Rattle.conflicts.specs.Intervals.{Common, overlap}
-use Rattle.race_model.specs.RaceList.{inConflict, isRace, pair, racesOf, racesBelow, raceList}
+use Rattle.conflicts.specs.Conflict.{inConflict}
+use Rattle.race_model.specs.RaceList.{isRace, pair, racesOf, racesBelow, raceList}
 use Rattle.races.specs.declared.RacesAnswer.the-variants.{Listed}
 use Rattle.races.specs.Races.{racesReading, racesAnswer, racesListed}
 use Rattle.starred.specs.Files.{fileB, fileC, waitThenPost, postThenWait, fileE}

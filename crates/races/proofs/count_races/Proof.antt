@@ -6,7 +6,7 @@ use borrow.Author.Needs.{needs}
 use Rattle.trace.specs.Reading.{traceOf}
 use Rattle.table_entries.proofs.TableEntries.{table-reads, table-short}
 use Rattle.race_rows.specs.Rows.{CountsAt}
-use Rattle.race_rows.proofs.RowNotes.{counts-start}
+use Rattle.race_rows.proofs.RowStart.{counts-start}
 use Rattle.races.proofs.PairWriting.{row-few, Counted, count-none, count-more, count-all}
 use Rattle.races.proofs.count_races.Statement.{statement}
 use Rattle.races.proofs.count_races.Tie as tie

@@ -7,7 +7,7 @@ use Rattle.trace.specs.Reading.{traceOf}
 use Rattle.trace.specs.Trace.{size}
 use Rattle.table_entries.proofs.TableEntries.{table-reads, table-short}
 use Rattle.race_rows.specs.Rows.{RowsAt}
-use Rattle.race_rows.proofs.RowNotes.{rows-start}
+use Rattle.race_rows.proofs.RowStart.{rows-start}
 use Rattle.races.proofs.PairWriting.{table-few, RowsWritten, rows-none, rows-room, rows-more, rows-all}
 use Rattle.races.proofs.write_rows.Statement.{statement}
 use Rattle.races.proofs.write_rows.Tie as tie

@@ -1,10 +1,10 @@
 -- `is_empty` meets its contract. Assumes nothing.
 use native.Mathlib.Omega.{arith}
 use borrow.Author.Tests.{eqb-true}
-use Rattle.race_rows.proofs.RowNotes.{block-empty}
+use Rattle.race_words.proofs.RowNotes.{block-empty}
 use borrow.Author.Needs.{needs}
-use Rattle.race_rows.proofs.is_empty.Statement.{statement}
-use Rattle.race_rows.proofs.is_empty.Tie as tie
+use Rattle.race_words.proofs.is_empty.Statement.{statement}
+use Rattle.race_words.proofs.is_empty.Tie as tie
 
 mul-at : tie.Need-mul-at
 mul-at c = search needs

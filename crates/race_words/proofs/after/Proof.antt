@@ -1,8 +1,8 @@
 -- `after` meets its contract. Assumes nothing.
-use Rattle.race_rows.proofs.RaceWords.{after-all, after-some}
+use Rattle.race_words.proofs.RaceWords.{after-all, after-some}
 use borrow.Author.Needs.{needs}
-use Rattle.race_rows.proofs.after.Statement.{statement}
-use Rattle.race_rows.proofs.after.Tie as tie
+use Rattle.race_words.proofs.after.Statement.{statement}
+use Rattle.race_words.proofs.after.Tie as tie
 
 mul-if1 : tie.Need-mul-if1
 mul-if1 c = search needs

@@ -1,9 +1,9 @@
 -- `row_word` meets its contract. Assumes nothing.
 use mathlib.Core.Path.{_≡_}
-use Rattle.race_rows.proofs.RaceWords.{race-word}
+use Rattle.race_words.proofs.RaceWords.{race-word}
 use borrow.Author.Needs.{needs}
-use Rattle.race_rows.proofs.row_word.Statement.{statement}
-use Rattle.race_rows.proofs.row_word.Tie as tie
+use Rattle.race_words.proofs.row_word.Statement.{statement}
+use Rattle.race_words.proofs.row_word.Tie as tie
 
 met-word-requires : tie.Need-met-word-requires
 met-word-requires c κs = search needs

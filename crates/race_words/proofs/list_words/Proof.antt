@@ -3,9 +3,9 @@ use native.Mathlib.Omega.{arith}
 use Prim.Native.Nat.{_-_, _≤_}
 use borrow.Author.Needs.{needs}
 use Rattle.trace.specs.Reading.{traceOf}
-use Rattle.race_rows.proofs.RowLoops.{ListedTo, listed-start, listed-room, listed-more, listed-end}
-use Rattle.race_rows.proofs.list_words.Statement.{statement}
-use Rattle.race_rows.proofs.list_words.Tie as tie
+use Rattle.race_words.proofs.RowLoops.{ListedTo, listed-start, listed-room, listed-more, listed-end}
+use Rattle.race_words.proofs.list_words.Statement.{statement}
+use Rattle.race_words.proofs.list_words.Tie as tie
 
 abbrev Inv-loop : tie.InvT-loop
 Inv-loop file cells kept seen a w slot row₀ n at₀ v₀ row at v = ListedTo (traceOf file) a v row at × (v ≤ 32)

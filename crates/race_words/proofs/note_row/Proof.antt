@@ -3,9 +3,9 @@ use native.Mathlib.Omega.{arith}
 use Prim.Native.Nat.{_-_, _/_, _≤_}
 use borrow.Author.Needs.{needs}
 use Rattle.meetings.specs.Meetings.{firstOf, lastOf}
-use Rattle.race_rows.proofs.RowNotes.{NotingTo, noting-start, noting-more, row-noted}
-use Rattle.race_rows.proofs.note_row.Statement.{statement}
-use Rattle.race_rows.proofs.note_row.Tie as tie
+use Rattle.race_words.proofs.RowNotes.{NotingTo, noting-start, noting-more, row-noted}
+use Rattle.race_words.proofs.note_row.Statement.{statement}
+use Rattle.race_words.proofs.note_row.Tie as tie
 
 abbrev Inv-loop : tie.InvT-loop
 Inv-loop file cells kept a w slot seen₀ n block₀ seen block =

@@ -12,7 +12,7 @@ use Rattle.words.proofs.Passing.{passing-none, passing-end, passing-agree, pass
 use Rattle.race_model.specs.RaceList.{isRace}
 use Rattle.race_model.specs.RaceRows.{raceRow, RowHolds}
 use Rattle.race_model.proofs.RaceTests.{no-race-ahead, no-race-outside}
-use Rattle.race_rows.specs.Rows.{RaceWord}
+use Rattle.race_words.specs.RaceWords.{RaceWord}
 
 -- ---- the words so far
 

@@ -4,9 +4,9 @@ use native.Mathlib.Omega.{arith}
 use Prim.Native.Nat.{_-_, _≤_}
 use borrow.Author.Needs.{needs}
 use Rattle.trace.specs.Reading.{traceOf}
-use Rattle.race_rows.proofs.RowLoops.{CountedTo, counted-start, counted-few, counted-more, counted-end}
-use Rattle.race_rows.proofs.count_words.Statement.{statement}
-use Rattle.race_rows.proofs.count_words.Tie as tie
+use Rattle.race_words.proofs.RowLoops.{CountedTo, counted-start, counted-few, counted-more, counted-end}
+use Rattle.race_words.proofs.count_words.Statement.{statement}
+use Rattle.race_words.proofs.count_words.Tie as tie
 
 abbrev Inv-loop : tie.InvT-loop
 Inv-loop file cells kept seen a w slot n count₀ v₀ count v = CountedTo (traceOf file) a v count × (v ≤ 32)

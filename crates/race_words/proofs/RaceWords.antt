@@ -20,7 +20,7 @@ use Rattle.meetings.specs.Meetings.{isNoted}
 use Rattle.unordered.specs.Kept.{held}
 use Rattle.race_model.specs.RaceList.{isRace}
 use Rattle.race_model.proofs.RaceTests.{no-race-outside}
-use Rattle.race_rows.specs.Rows.{After, RaceWord, ToNote, RowReady}
+use Rattle.race_words.specs.RaceWords.{After, RaceWord, ToNote, RowReady}
 
 -- ---- after a
 

@@ -1,9 +1,9 @@
 -- `note_free` meets its contract. Assumes nothing.
 use mathlib.Core.Path.{sym, _∙_}
-use Rattle.race_rows.proofs.RowNotes.{done-empty, done-noted}
+use Rattle.race_words.proofs.RowNotes.{done-empty, done-noted}
 use borrow.Author.Needs.{needs}
-use Rattle.race_rows.proofs.note_free.Statement.{statement}
-use Rattle.race_rows.proofs.note_free.Tie as tie
+use Rattle.race_words.proofs.note_free.Statement.{statement}
+use Rattle.race_words.proofs.note_free.Tie as tie
 
 is-empty-requires : tie.Need-is-empty-requires
 is-empty-requires c κs = search needs
