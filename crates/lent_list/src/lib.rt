@@ -1,7 +1,7 @@
 // The call `race_list::race_list` on a local list, for tests: the records come from two lists of numbers, and go back
 // to them.
 ghost use Prim.Native.Nat.{_≤_};
-use race_search::Race;
+use race_model::Race;
 use races::RacesAnswer;
 
 // The lesser of two numbers.

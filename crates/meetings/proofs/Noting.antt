@@ -71,12 +71,21 @@ module _ {cells seen : List ℕ} (h : Notes cells seen) {s : ℕ} (l : s < 32) (
       each k b i j n = elim (equal? k s) [
         | inl e ↦ absurd (true≢false (sym n ∙ rw (e, taken-none) (none-in (b / 128))))
         | inr d ↦
-            let word = taken-other (32 * k + b / 32) (λ z. omega (arith, z)) (λ z. omega (arith, z)) (λ z. omega (arith, z)) in
-            let low = taken-other (1024 + k) (λ z. d (omega (arith, z))) (λ z. omega (arith, z)) (λ z. omega (arith, z)) in
-            let high = taken-other (1056 + k) (λ z. omega (arith, z)) (λ z. d (omega (arith, z))) (λ z. omega (arith, z)) in
-            let mask = taken-other (1088 + k) (λ z. omega (arith, z)) (λ z. omega (arith, z)) (λ z. d (omega (arith, z))) in
-            rw (word, low, high) (h .each k b i j (rw mask at n))
+            rw (word, low d, high d) (h .each k b i j (rw (mask d) at n))
       ]
+        where
+          word : getD taken (32 * k + b / 32) 0 ≡ getD seen (32 * k + b / 32) 0
+          word =
+              taken-other (32 * k + b / 32) (λ z. omega (arith, z)) (λ z. omega (arith, z)) (λ z. omega (arith, z))
+
+          low : k ≢ s → getD taken (1024 + k) 0 ≡ getD seen (1024 + k) 0
+          low d = taken-other (1024 + k) (λ z. d (omega (arith, z))) (λ z. omega (arith, z)) (λ z. omega (arith, z))
+
+          high : k ≢ s → getD taken (1056 + k) 0 ≡ getD seen (1056 + k) 0
+          high d = taken-other (1056 + k) (λ z. omega (arith, z)) (λ z. d (omega (arith, z))) (λ z. omega (arith, z))
+
+          mask : k ≢ s → getD taken (1088 + k) 0 ≡ getD seen (1088 + k) 0
+          mask d = taken-other (1088 + k) (λ z. omega (arith, z)) (λ z. omega (arith, z)) (λ z. d (omega (arith, z)))
 
   pub taken-for : {a : ℕ} → first ≡ getD cells (place a) 0 → last ≡ getD cells (1024 + place a) 0
       → SlotFor cells taken a s
@@ -85,13 +94,15 @@ module _ {cells seen : List ℕ} (h : Notes cells seen) {s : ℕ} (l : s < 32) (
     where
       low : getD taken (1024 + s) 0 ≡ first
       low =
-          getD-set-other (set (set seen (1024 + s) first) (1056 + s) last) (1088 + s) (1024 + s) 0 0 (λ z. omega (arith, z))
+          getD-set-other (set (set seen (1024 + s) first) (1056 + s) last) (1088 + s) (1024 + s) 0 0
+          (λ z. omega (arith, z))
           ∙ getD-set-other (set seen (1024 + s) first) (1056 + s) (1024 + s) last 0 (λ z. omega (arith, z))
           ∙ getD-set-same seen (1024 + s) first 0 (omega (arith, h .long))
 
       high : getD taken (1056 + s) 0 ≡ last
       high =
-          getD-set-other (set (set seen (1024 + s) first) (1056 + s) last) (1088 + s) (1056 + s) 0 0 (λ z. omega (arith, z))
+          getD-set-other (set (set seen (1024 + s) first) (1056 + s) last) (1088 + s) (1056 + s) 0 0
+          (λ z. omega (arith, z))
           ∙ getD-set-same (set seen (1024 + s) first) (1056 + s) last 0 (simp length-set (omega (arith, h .long)))
 
 -- the slot is that of the cells already

@@ -16,7 +16,7 @@ use Rattle.model.specs.Rule.{WorkersKnown}
 use Rattle.race_model.specs.declared.Race.{Race}
 use Rattle.race_model.specs.Race.{RaceIn, Ahead, lower-first, then-higher, Ascending}
 use Rattle.race_model.specs.RaceList.{isRace, pair, racesOf, racesBelow, raceList, raceCount, noRace}
-use Rattle.race_model.specs.RaceList.{racesBefore, racesUpTo}
+use Rattle.race_model.specs.RaceList.{racesBefore}
 use Rattle.race_model.proofs.RaceTests.{race-test, race-ascending, race-below, no-race-ahead}
 
 module _ (t : Trace) where
@@ -73,15 +73,14 @@ module _ (t : Trace) where
 
   -- ---- what stands in it, and how many
 
-  -- record i of the races before a pair: a race, ahead of the pair, and i races are before it
-  pub record Placed (a b i : ℕ) (r : Race) : Type 0 where
+  -- record i of the races before a pair: a race, ahead of the pair
+  pub record Placed (a b : ℕ) (r : Race) : Type 0 where
     pub race : isRace t (r .lower) (r .higher) ≡ true
     pub ahead : Ahead r (pair a b)
-    pub counts : racesUpTo t r ≡ suc i
 
   -- the races l before a pair
   pub record Scanned (a b : ℕ) (l : List Race) : Type 0 where
-    pub placed : (i : ℕ) (d : Race) → i < length l → Placed a b i (getD l i d)
+    pub placed : (i : ℕ) (d : Race) → i < length l → Placed a b (getD l i d)
     pub ascending : Ascending l
     pub few : length l ≤ a * size t + b
 
@@ -100,10 +99,10 @@ module _ (t : Trace) where
   scanned-as {a} {b} {c} {e} {l} f h s =
       record { placed = placed; ascending = s .ascending; few = omega (arith, s .few) }
     where
-      placed : (i : ℕ) (d : Race) → i < length l → Placed c e i (getD l i d)
+      placed : (i : ℕ) (d : Race) → i < length l → Placed c e (getD l i d)
       placed i d j =
           let p = s .placed i d j in
-          record { race = p .race; ahead = f (getD l i d) (p .ahead); counts = p .counts }
+          record { race = p .race; ahead = f (getD l i d) (p .ahead) }
 
   ahead-on : {a b : ℕ} (r : Race) → Ahead r (pair a b) → Ahead r (pair a (suc b))
   ahead-on r (lower-first l) = lower-first l
@@ -134,15 +133,14 @@ module _ (t : Trace) where
       last : (d : Race) → getD more (length l) d ≡ pair a b
       last d = getD-append-seam l (pair a b) [] d
 
-      placed : (i : ℕ) (d : Race) → i < length more → Placed a (suc b) i (getD more i d)
+      placed : (i : ℕ) (d : Race) → i < length more → Placed a (suc b) (getD more i d)
       placed i d h = elim (less? i (length l)) [
         | inl j ↦
             let p = s .placed i d j in
-            rw (front i d j) (record { race = p .race; ahead = ahead-on _ (p .ahead); counts = p .counts })
+            rw (front i d j) (record { race = p .race; ahead = ahead-on _ (p .ahead) })
         | inr j ↦
             let same : i ≡ length l = omega (arith, h, long) in
-            let counts : racesUpTo t (pair a b) ≡ suc (length l) = ap length (before-race a b e) ∙ long in
-            rw (same, last d) (record { race = e; ahead = then-higher refl (omega arith); counts = counts })
+            rw (same, last d) (record { race = e; ahead = then-higher refl (omega arith) })
       ]
 
       ascending : Ascending more
@@ -226,13 +224,6 @@ module _ (t : Trace) where
       long : length (racesBefore t a b) < length (racesBefore t a b ++ pair a b ∷ (s .rest))
       long = simp length-append (omega arith)
 
-  -- behind the last pair there is nothing more
-  pub before-end : (a b : ℕ) → size t ≤ a → raceCount t ≤ length (racesBefore t a b)
-  before-end a b l = rw (s .whole) (simp length-append (omega arith))
-    where
-      s : Starts (raceList t) (racesBefore t a b)
-      s = rw (← before-all) (starts-trans (starts-rows (size t) a l) (starts-row a 0 b (omega arith)))
-
   -- ---- exactly the races, ascending
 
   pub list-ascending : Ascending (raceList t)
@@ -241,13 +232,10 @@ module _ (t : Trace) where
   pub list-few : raceCount t ≤ size t * size t
   list-few = omega (arith, list-scanned .few)
 
-  -- record i of the list is a race, and i races are before it
+  -- record i of the list is a race
   pub list-race : (i : ℕ) (d : Race) → i < raceCount t
       → isRace t (getD (raceList t) i d .lower) (getD (raceList t) i d .higher) ≡ true
   list-race i d l = list-scanned .placed i d l .race
-
-  pub list-counts : (i : ℕ) (d : Race) → i < raceCount t → racesUpTo t (getD (raceList t) i d) ≡ suc i
-  list-counts i d l = list-scanned .placed i d l .counts
 
 -- in the list exactly if it is a race
 pub list-exactly : {t : Trace} → WorkersKnown t → (a b : ℕ) → List·Memᴰ (pair a b) (raceList t) ↔ RaceIn t a b

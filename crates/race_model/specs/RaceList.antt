@@ -6,7 +6,7 @@ use mathlib.Core.Bool.{Bool, cond, _&&_}
 use mathlib.Core.List.{List, [], _∷_, _++_}
 use Prim.Native.Nat.{ℕ, zero, suc}
 use lib.Dec.{ltb}
-use lib.ListN.{length, getD}
+use lib.ListN.{length}
 use Rattle.trace.specs.Trace.{Trace, size, operation}
 use Rattle.model.specs.Computed.{unorderedIn}
 use Rattle.race_model.specs.declared.Race.{Race}
@@ -42,18 +42,6 @@ raceCount t = length (raceList t)
 abbrev pub noRace : Trace → Race
 noRace t = pair (size t) (size t)
 
--- race i of the list, from 0
-abbrev pub raceAt : Trace → ℕ → Race
-raceAt t i = getD (raceList t) i (noRace t)
-
 -- the races that come before a pair in the list's order
 abbrev pub racesBefore : Trace → ℕ → ℕ → List Race
 racesBefore t a b = racesOf t (racesBelow t a) a b
-
--- how many there are up to a pair, itself included
-abbrev pub racesUpTo : Trace → Race → ℕ
-racesUpTo t r = length (racesBefore t (r .lower) (suc (r .higher)))
-
--- the race that follows a pair in the list
-unfoldable pub nextRace : Trace → Race → Race
-nextRace t r = raceAt t (racesUpTo t r)

@@ -97,7 +97,12 @@ module _ {t : Trace} {a : ℕ} {cells kept seen : List ℕ} {w slot : ℕ} (read
             && (marked cells a || marked cells b)
             ≡ inConflict (operation t a) (operation t b)
         by-cells =
-            rw (held-first hold (h .inside), held-last hold (h .inside), hold .each a (h .inside) .write, hold .each b inside .write)
+            rw (
+              held-first hold (h .inside),
+              held-last hold (h .inside),
+              hold .each a (h .inside) .write,
+              hold .each b inside .write,
+            )
             (held-met hold (h .inside) inside)
 
         kept-here : held kept w b ≡ true
@@ -115,7 +120,9 @@ module _ {t : Trace} {a : ℕ} {cells kept seen : List ℕ} {w slot : ℕ} (read
     race-bit : isIn r i ≡ isRace t a b
     race-bit = whole ∙ elim (less? b (size t)) [
       | inr out ↦ rw (le-ltb b (size t) out, no-race-outside t a b out) (go hit (ltb a b))
-      | inl inside ↦ rw (lt-ltb b (size t) inside, race-asked t a b inside) (tests inside (unorderedIn t a b) (ltb a b) refl refl)
+      | inl inside ↦
+          rw (lt-ltb b (size t) inside, race-asked t a b inside)
+          (tests inside (unorderedIn t a b) (ltb a b) refl refl)
     ]
       where
         go : (p q : Bool) → ((p && false) && q) ≡ false
@@ -125,7 +132,9 @@ module _ {t : Trace} {a : ℕ} {cells kept seen : List ℕ} {w slot : ℕ} (read
         tests : b < size t → (u s : Bool) → unorderedIn t a b ≡ u → ltb a b ≡ s
             → ((hit && (not (eqb a b) && u)) && s)
             ≡ ((inConflict (operation t a) (operation t b) && u) && s)
-        tests inside u false e d = sym (and-false (inConflict (operation t a) (operation t b) && u) ∙ sym (and-false (hit && (not (eqb a b) && u))))
+        tests inside u false e d =
+            and-false (hit && (not (eqb a b) && u))
+            ∙ sym (and-false (inConflict (operation t a) (operation t b) && u))
         tests inside true true e d =
             rw (apart (ltb-true a b d)) (ap (λ (p : Bool). (p && true) && true) (looked inside e (ltb-true a b d)))
         tests inside false true e d =

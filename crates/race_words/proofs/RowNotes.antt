@@ -41,7 +41,9 @@ block-empty kept w block f g h e b i = go (b / 32 % 4) refl
     at l s = omega (arith, i, s)
 
     go : (l : ℕ) → b / 32 % 4 ≡ l → isIn (getD kept (32 * w + b / 32) 0) (b % 32) ≡ false
-    go zero s = let at₀ : 32 * w + b / 32 ≡ 32 * w + 4 * block = omega (arith, i, s) in rw at₀ (all-empty f g h e (b % 32) .0 .0)
+    go zero s =
+        let first : 32 * w + b / 32 ≡ 32 * w + 4 * block = omega (arith, i, s) in
+        rw first (all-empty f g h e (b % 32) .0 .0)
     go (suc zero) s = rw (at 1 s) (all-empty f g h e (b % 32) .0 .1)
     go (suc (suc zero)) s = rw (at 2 s) (all-empty f g h e (b % 32) .1 .0)
     go (suc (suc (suc zero))) s = rw (at 3 s) (all-empty f g h e (b % 32) .1 .1)

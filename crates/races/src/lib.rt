@@ -26,7 +26,8 @@ pub enum RacesAnswer {
 // How many races there are; `counts` tells how many each operation has with later ones.
 fn count_races(file: &[u8], table: &[u16], counts: &mut [u16; 1024]) -> u32
     requires { ⌜ HoldsTable (now file) (now table) × (length (now counts) ≡ 1024) ⌝ }
-    ensures { λ r. ⌜ (r ≡ raceCount (traceOf (now (file .entry)))) × Hints (traceOf (now (file .entry))) (now (counts .exit)) ⌝ }
+    ensures { λ r. ⌜ (r ≡ raceCount (traceOf (now (file .entry))))
+        × Hints (traceOf (now (file .entry))) (now (counts .exit)) ⌝ }
 {
     let n = trace::operation_count(file) as usize;
     let mut cells = [0u32; 2080];

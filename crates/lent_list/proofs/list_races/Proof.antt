@@ -50,10 +50,10 @@ use denote.Triple.Table.{entered, cited}
 use denote.Triple.Walked.{Stays, gave-slice, stay-dropped, walkOf, goes-gave-slice, goes-dropped}
 use denote.Triple.Walked.{Walks, ends-at, walked, walk-meets}
 use borrow.Table.OneValue.{part-in, part-out}
-use Rattle.race_search.specs.declared.Race.{Race}
+use Rattle.race_model.specs.declared.Race.{Race}
 use Rattle.races.specs.declared.RacesAnswer.{RacesAnswer}
-use Rattle.race_search.proofs.Race as T
-use Rattle.race_search.proofs.Race.Laws as T′
+use Rattle.race_model.proofs.Race as T
+use Rattle.race_model.proofs.Race.Laws as T′
 use Rattle.races.proofs.RacesAnswer as S
 use Rattle.races.proofs.RacesAnswer.Laws as S′
 use Rattle.race_list.specs.Listing.{ListCall}

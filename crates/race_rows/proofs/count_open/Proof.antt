@@ -28,7 +28,8 @@ count-words-requires c κs =
 returns : tie.Need-returns
 returns c =
     let c6 = c .before .before .before .before .before .before in
-    (c .count-words .ensures, open-on (c6 .before .before .before .before .before .before .before .pre .0 .holds) (c6 .open-row .ensures))
+    let holds = c6 .before .before .before .before .before .before .before .pre .0 .holds in
+    (c .count-words .ensures, open-on holds (c6 .open-row .ensures))
 
 pub count-open-spec : {M : Type 1} → statement M
 count-open-spec =

@@ -1,4 +1,5 @@
--- `count_words` meets its contract. The invariant: the races with the operations below 32 v are counted. Assumes nothing.
+-- `count_words` meets its contract. The invariant: the races with the operations below 32 v are counted.
+-- Assumes nothing.
 use mathlib.Core.Path.{_∙_}
 use native.Mathlib.Omega.{arith}
 use Prim.Native.Nat.{_-_, _≤_}

@@ -13,11 +13,11 @@ use Rattle.races.proofs.write_rows.Statement.{statement}
 use Rattle.races.proofs.write_rows.Tie as tie
 
 abbrev Inv-loop : tie.InvT-loop
-Inv-loop file table counts lower₀ higher₀ n cells₀ next₀ kept₀ seen₀ row₀ at₀ a₀ lower higher cells next kept seen row at a =
-    RowsWritten (traceOf file) a at lower₀ lower higher₀ higher × RowsAt file table a cells next kept seen row
+Inv-loop file table counts low high n c₀ n₀ k₀ s₀ r₀ at₀ a₀ lower higher cells next kept seen row at a =
+    RowsWritten (traceOf file) a at low lower high higher × RowsAt file table a cells next kept seen row
 
 abbrev μ-loop : tie.MeasureT-loop
-μ-loop file table counts lower₀ higher₀ n cells₀ next₀ kept₀ seen₀ row₀ at₀ a₀ lower higher cells next kept seen row at a =
+μ-loop file table counts low high n c₀ n₀ k₀ s₀ r₀ at₀ a₀ lower higher cells next kept seen row at a =
     n - a
 
 operation-count-requires : tie.Need-operation-count-requires Inv-loop μ-loop
@@ -34,12 +34,14 @@ loop-holds c =
 mul-list-row : tie.Need-mul-list-row Inv-loop μ-loop
 mul-list-row c =
     let c2 = c .before .before in
-    omega (arith, c .loop-test .taken, c2 .operation-count .ensures, table-short (c2 .before .before .before .before .before .pre .0))
+    let few = table-short (c2 .before .before .before .before .before .pre .0) in
+    omega (arith, c .loop-test .taken, c2 .operation-count .ensures, few)
 
 element-copy-out-list-row : tie.Need-element-copy-out-list-row Inv-loop μ-loop
 element-copy-out-list-row c =
     let c2 = c .before .before in
-    omega (arith, c .loop-test .taken, c2 .operation-count .ensures, table-short (c2 .before .before .before .before .before .pre .0))
+    let few = table-short (c2 .before .before .before .before .before .pre .0) in
+    omega (arith, c .loop-test .taken, c2 .operation-count .ensures, few)
 
 list-row-requires : tie.Need-list-row-requires Inv-loop μ-loop
 list-row-requires c κs =
@@ -55,7 +57,8 @@ cast-fill : tie.Need-cast-fill Inv-loop μ-loop
 cast-fill c =
     let c8 = c .before .before .before .before .before .before .before .before in
     let c10 = c8 .before .before in
-    omega (arith, table-short (c10 .before .before .before .before .before .pre .0), c10 .operation-count .ensures, c8 .loop-test .taken)
+    let few = table-short (c10 .before .before .before .before .before .pre .0) in
+    omega (arith, few, c10 .operation-count .ensures, c8 .loop-test .taken)
 
 fill-requires : tie.Need-fill-requires Inv-loop μ-loop
 fill-requires c κs =
@@ -78,7 +81,8 @@ copy-requires c κs =
     let inv = c14 .loop .inv .0 in
     let listed = c6 .list-row .ensures .0 in
     let room = rows-room inv (omega (arith, e, c13 .loop-test .taken)) listed in
-    (omega (arith, room, c15 .before .before .before .before .before .pre .3, inv .high .size), listed .few, listed .long)
+    let pre = c15 .before .before .before .before .before .pre in
+    (omega (arith, room, pre .3, inv .high .size), listed .few, listed .long)
 
 add-at : tie.Need-add-at Inv-loop μ-loop
 add-at c =

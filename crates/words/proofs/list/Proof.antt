@@ -22,10 +22,14 @@ wide-index-requires : tie.Need-wide-index-requires Inv-loop μ-loop
 wide-index-requires c κs = search needs
 
 add-row : tie.Need-add-row Inv-loop μ-loop
-add-row c = omega (arith, c .wide-index .ensures .0, c .before .before .before .before .pre .few, c .before .loop-test .taken)
+add-row c =
+    let room = c .before .before .before .before .pre in
+    omega (arith, c .wide-index .ensures .0, room .few, c .before .loop-test .taken)
 
 cast-row : tie.Need-cast-row Inv-loop μ-loop
-cast-row c = omega (arith, c .wide-index .ensures .0, c .before .before .before .before .pre .few, c .before .loop-test .taken)
+cast-row c =
+    let room = c .before .before .before .before .pre in
+    omega (arith, c .wide-index .ensures .0, room .few, c .before .loop-test .taken)
 
 mul-row : tie.Need-mul-row Inv-loop μ-loop
 mul-row c = omega (arith, list-inside (c .before .before .loop .inv) (c .before .loop-test .taken))
