@@ -2,11 +2,11 @@
 use mathlib.Core.Bool.{Bool, true, false, cond, _&&_, _||_}
 use mathlib.Core.List.{List}
 use mathlib.Core.Logic.{_≢_}
-use mathlib.Core.Path.{_≡_, refl}
+use mathlib.Core.Path.{_≡_, refl, ap, _∙_}
 use native.Mathlib.Nat.{add-zero, mod-eq-of-lt, pow-suc}
 use native.Mathlib.Numerals.{add-one}
 use native.Mathlib.Omega.{arith}
-use Prim.Native.Nat.{ℕ, zero, suc, _+_, _*_, _/_, _%_, _^_, _<_, _≤_}
+use Prim.Native.Nat.{ℕ, zero, suc, _+_, _*_, _-_, _/_, _%_, _^_, _<_, _≤_}
 use lib.ListN.{length, getD, set, length-set}
 use lib.Pow.{pow-mono}
 use lib.Seq.{getD-set-same, getD-set-other}
@@ -45,50 +45,88 @@ word-more f n = rw add-one (go (f n))
     go true = omega arith
     go false = omega arith
 
+pub word-agree : (f g : ℕ → Bool) (n : ℕ) → ((k : ℕ) → k < n → f k ≡ g k) → wordOf f n ≡ wordOf g n
+unfolding wordOf
+word-agree f g zero h = refl
+word-agree f g (suc n) h = rw (word-agree f g n (λ k l. h k (omega arith)), h n (omega arith))
+
+-- bit 0, and the others
+pub word-front : (f : ℕ → Bool) (n : ℕ) → wordOf f (suc n) ≡ bit (f 0) + 2 * wordOf (λ k. f (suc k)) n
+unfolding wordOf
+word-front f zero = go (f 0)
+  where
+    go : (v : Bool) → 0 + cond v (2 ^ 0) 0 ≡ bit v + 2 * 0
+    go true = refl
+    go false = refl
+word-front f (suc n) = go (f (suc n)) (word-front f n)
+  where
+    go : (v : Bool) → wordOf f (suc n) ≡ bit (f 0) + 2 * wordOf (λ k. f (suc k)) n
+        → wordOf f (suc n) + cond v (2 ^ suc n) 0
+        ≡ bit (f 0) + 2 * (wordOf (λ k. f (suc k)) n + cond v (2 ^ n) 0)
+    go true e = omega (arith, e, pow-suc 2 n)
+    go false e = omega (arith, e)
+
 -- ---- four words of a block
 
 -- does operation 32 l + j of the block that starts at base meet these cells?
 abbrev pub metIn : List ℕ → ℕ → ℕ → ℕ → ℕ → ℕ → Bool
 metIn cells first last base l j = metAt cells first last (base + 4 * j + l)
 
--- the first j bits of the four
-pub record FourWords (cells : List ℕ) (first last base j x0 x1 x2 x3 : ℕ) : Type 0 where
-  pub few : j ≤ 32
-  pub word0 : x0 ≡ wordOf (metIn cells first last base 0) j
-  pub word1 : x1 ≡ wordOf (metIn cells first last base 1) j
-  pub word2 : x2 ≡ wordOf (metIn cells first last base 2) j
-  pub word3 : x3 ≡ wordOf (metIn cells first last base 3) j
+-- the bits of the four from `left` on
+pub record FourWords (cells : List ℕ) (first last base left x0 x1 x2 x3 : ℕ) : Type 0 where
+  pub few : left ≤ 32
+  pub word0 : x0 ≡ wordOf (λ j. metIn cells first last base 0 (left + j)) (32 - left)
+  pub word1 : x1 ≡ wordOf (λ j. metIn cells first last base 1 (left + j)) (32 - left)
+  pub word2 : x2 ≡ wordOf (λ j. metIn cells first last base 2 (left + j)) (32 - left)
+  pub word3 : x3 ≡ wordOf (λ j. metIn cells first last base 3 (left + j)) (32 - left)
 
-pub four-start : (cells : List ℕ) (first last base : ℕ) → FourWords cells first last base 0 0 0 0 0
+pub four-start : (cells : List ℕ) (first last base : ℕ) → FourWords cells first last base 32 0 0 0 0
 unfolding wordOf
 four-start cells first last base = record { few = omega arith; word0 = refl; word1 = refl; word2 = refl; word3 = refl }
 
-module _ {cells : List ℕ} {first last base j x0 x1 x2 x3 : ℕ} (w : FourWords cells first last base j x0 x1 x2 x3) where
-  pub four-few : (x0 < 2 ^ j) × (x1 < 2 ^ j) × (x2 < 2 ^ j) × (x3 < 2 ^ j)
+module _ {cells : List ℕ} {first last base left x0 x1 x2 x3 : ℕ}
+    (w : FourWords cells first last base left x0 x1 x2 x3) (h : 1 ≤ left) where
+  pub four-few : (x0 < 2147483648) × (x1 < 2147483648) × (x2 < 2147483648) × (x3 < 2147483648)
   four-few = (short 0 x0 (w .word0), short 1 x1 (w .word1), short 2 x2 (w .word2), short 3 x3 (w .word3))
     where
-      short : (l x : ℕ) → x ≡ wordOf (metIn cells first last base l) j → x < 2 ^ j
-      short l x e = rw e (word-few (metIn cells first last base l) j)
+      short : (l x : ℕ) → x ≡ wordOf (λ j. metIn cells first last base l (left + j)) (32 - left) → x < 2147483648
+      short l x e =
+          let wide : 2 ^ (32 - left) ≤ 2 ^ 31 = pow-mono {i = 32 - left} {j = 31} (omega arith) in
+          omega (arith, e, wide, word-few (λ j. metIn cells first last base l (left + j)) (32 - left))
 
   -- bit j of each
-  pub four-more : {y0 y1 y2 y3 : ℕ} → j < 32
-      → y0 ≡ x0 + bit (metAt cells first last (base + 4 * j)) * 2 ^ j
-      → y1 ≡ x1 + bit (metAt cells first last (base + 4 * j + 1)) * 2 ^ j
-      → y2 ≡ x2 + bit (metAt cells first last (base + 4 * j + 2)) * 2 ^ j
-      → y3 ≡ x3 + bit (metAt cells first last (base + 4 * j + 3)) * 2 ^ j
-      → FourWords cells first last base (j + 1) y0 y1 y2 y3
-  four-more h e0 e1 e2 e3 =
+  pub four-more : {j y0 y1 y2 y3 : ℕ} → j ≡ left - 1
+      → y0 ≡ 2 * x0 + bit (metAt cells first last (base + 4 * j))
+      → y1 ≡ 2 * x1 + bit (metAt cells first last (base + 4 * j + 1))
+      → y2 ≡ 2 * x2 + bit (metAt cells first last (base + 4 * j + 2))
+      → y3 ≡ 2 * x3 + bit (metAt cells first last (base + 4 * j + 3))
+      → FourWords cells first last base j y0 y1 y2 y3
+  four-more {j} z e0 e1 e2 e3 =
       record {
-        few = omega arith;
-        word0 = rw (e0, w .word0) (rw add-zero at (word-more (metIn cells first last base 0) j));
-        word1 = rw (e1, w .word1) (word-more (metIn cells first last base 1) j);
-        word2 = rw (e2, w .word2) (word-more (metIn cells first last base 2) j);
-        word3 = rw (e3, w .word3) (word-more (metIn cells first last base 3) j);
+        few = omega (arith, w .few, z);
+        word0 = rw (e0, w .word0) (rw add-zero at (front 0));
+        word1 = rw (e1, w .word1) (front 1);
+        word2 = rw (e2, w .word2) (front 2);
+        word3 = rw (e3, w .word3) (front 3);
       }
+    where
+      front : (l : ℕ) → 2 * wordOf (λ k. metIn cells first last base l (left + k)) (32 - left)
+          + bit (metAt cells first last (base + 4 * j + l))
+          ≡ wordOf (λ k. metIn cells first last base l (j + k)) (32 - j)
+      front l =
+          let more : 32 - j ≡ suc (32 - left) = omega (arith, w .few, z) in
+          let g : ℕ → Bool = λ k. metIn cells first last base l (j + k) in
+          rw (more, word-front g (32 - left), add-zero, ← rest)
+          (omega arith)
+        where
+          rest : wordOf (λ k. metIn cells first last base l (left + k)) (32 - left)
+              ≡ wordOf (λ k. metIn cells first last base l (j + suc k)) (32 - left)
+          rest = word-agree _ _ (32 - left) (λ k i.
+              ap (λ (m : ℕ). metIn cells first last base l m) (omega (arith, z)))
 
 -- the four are stored
-module _ {cells : List ℕ} {first last block : ℕ} {seen : List ℕ} {at x0 x1 x2 x3 j : ℕ} (b : BlockAt block seen at)
-    (w : FourWords cells first last (128 * block) j x0 x1 x2 x3) (d : 32 ≤ j) where
+module _ {cells : List ℕ} {first last block : ℕ} {seen : List ℕ} {at x0 x1 x2 x3 left : ℕ} (b : BlockAt block seen at)
+    (w : FourWords cells first last (128 * block) left x0 x1 x2 x3) (d : left < 1) where
   abbrev one : List ℕ
   one = set seen at x0
 
@@ -104,9 +142,11 @@ module _ {cells : List ℕ} {first last block : ℕ} {seen : List ℕ} {at x0 x1
   stored-long : length stored ≡ 1120
   stored-long = simp length-set (b .long)
 
-  full : (l x : ℕ) → x ≡ wordOf (metIn cells first last (128 * block) l) j
+  full : (l x : ℕ) → x ≡ wordOf (λ k. metIn cells first last (128 * block) l (left + k)) (32 - left)
       → x ≡ wordOf (metIn cells first last (128 * block) l) 32
-  full l x e = let i : 32 ≡ j = omega (arith, w .few, d) in rw i e
+  full l x e =
+      let none : left ≡ 0 = omega arith in
+      e ∙ rw none (word-agree _ _ 32 (λ k i. ap (λ (m : ℕ). metIn cells first last (128 * block) l m) (omega arith)))
 
   stored-at : (l : ℕ) → l < 4 → getD stored (at + l) 0 ≡ wordOf (metIn cells first last (128 * block) l) 32
   stored-at zero h =

@@ -118,12 +118,12 @@ fn meets(first: u32, last: u32, other_first: u32, other_last: u32) -> u32
     ((first <= other_last) as u32) & ((other_first <= last) as u32)
 }
 
-// A word of j bits, with one more in front: do the cells that stand at a place meet these?
-fn add_met(cells: &[u32; 2080], first: u32, last: u32, at: usize, x: u32, j: usize) -> u32
-    requires { ⌜ (at < 1024) × (x < 2 ^ j) × (j < 32) ⌝ }
-    ensures { λ r. ⌜ r ≡ x + bit (metAt (now (cells .entry)) first last at) * 2 ^ j ⌝ }
+// A word, with one more bit behind: do the cells that stand at a place meet these?
+fn add_met(cells: &[u32; 2080], first: u32, last: u32, at: usize, x: u32) -> u32
+    requires { ⌜ (at < 1024) × (x < 2147483648) ⌝ }
+    ensures { λ r. ⌜ r ≡ 2 * x + bit (metAt (now (cells .entry)) first last at) ⌝ }
 {
-    add_bit(x, meets(first, last, cells[at], cells[1024 + at]), j)
+    2 * x + meets(first, last, cells[at], cells[1024 + at])
 }
 
 // Tells which operations of a block of 128 meet these cells, in the four words from `at` on. The four are made side by
@@ -144,14 +144,15 @@ pub fn meet_block(
     let mut x1: u32 = 0;
     let mut x2: u32 = 0;
     let mut x3: u32 = 0;
-    let mut j: usize = 0;
-    while j < 32 {
+    let mut left: usize = 32;
+    while 1 <= left {
+        let j = left - 1;
         let i = base + 4 * j;
-        x0 = add_met(cells, first, last, i, x0, j);
-        x1 = add_met(cells, first, last, i + 1, x1, j);
-        x2 = add_met(cells, first, last, i + 2, x2, j);
-        x3 = add_met(cells, first, last, i + 3, x3, j);
-        j += 1;
+        x0 = add_met(cells, first, last, i, x0);
+        x1 = add_met(cells, first, last, i + 1, x1);
+        x2 = add_met(cells, first, last, i + 2, x2);
+        x3 = add_met(cells, first, last, i + 3, x3);
+        left = j;
     }
     seen[at] = x0;
     seen[at + 1] = x1;

@@ -59,11 +59,17 @@ listed t old i = writtenOver (take i (raceList t)) old
 -- ---- all races, row by row, for the loop over the rows
 
 -- the lengths of the arrays that the search by rows is lent
-abbrev pub notesLength : ℕ
-notesLength = 5152
+abbrev pub cellsLength : ℕ
+cellsLength = 2080
+
+abbrev pub nextLength : ℕ
+nextLength = 1024
 
 abbrev pub keptLength : ℕ
-keptLength = 2048
+keptLength = 1536
+
+abbrev pub seenLength : ℕ
+seenLength = 1120
 
 abbrev pub rowLength : ℕ
 rowLength = 1024
@@ -80,13 +86,15 @@ over-none t old = rw (below-start t)
 pub record RowsDone (bytes table : List ℕ) (count : ℕ) : Type 0 where
   pub a : ℕ
   pub at : ℕ
-  pub notes : List ℕ
+  pub cells : List ℕ
+  pub next : List ℕ
   pub kept : List ℕ
+  pub seen : List ℕ
   pub row : List ℕ
   pub below : a ≤ size (traceOf bytes)
   pub few : at ≤ count
   pub counts : at ≡ length (racesBelow (traceOf bytes) a)
-  pub ready : 1 ≤ count → RowsAt bytes table a notes kept row
+  pub ready : 1 ≤ count → RowsAt bytes table a cells next kept seen row
 
 -- they come first in the list of all races
 below-rest : (t : Trace) (a c : ℕ) → a ≤ c → (rest : List Race) × (racesBelow t c ≡ racesBelow t a ++ rest)
@@ -111,16 +119,18 @@ module _ {bytes table : List ℕ} {count : ℕ} (can : Writable bytes table coun
       record {
         a = 0;
         at = 0;
-        notes = replicate notesLength 0;
+        cells = replicate cellsLength 0;
+        next = replicate nextLength 0;
         kept = replicate keptLength 0;
+        seen = replicate seenLength 0;
         row = replicate rowLength 0;
         below = omega arith;
         few = omega arith;
         counts = sym (ap length (below-start (traceOf bytes)));
         ready =
             λ l.
-            rows-start (can .holds l) (length-replicate {A = ℕ} notesLength 0) (length-replicate {A = ℕ} keptLength 0)
-            (length-replicate {A = ℕ} rowLength 0);
+            rows-start (can .holds l) (length-replicate {A = ℕ} cellsLength 0) (length-replicate {A = ℕ} nextLength 0)
+            (length-replicate {A = ℕ} seenLength 0) (length-replicate {A = ℕ} rowLength 0);
       }
 
   module _ (old : List Race) (room : count ≤ length old) (d : RowsDone bytes table count) where
@@ -155,7 +165,7 @@ module _ {bytes table : List ℕ} {count : ℕ} (can : Writable bytes table coun
         | inr n ↦ omega (arith, n, d .below)
       ]
 
-      pub rows-ask : RowsAt bytes table (d .a) (d .notes) (d .kept) (d .row) × (d .a < size t)
+      pub rows-ask : RowsAt bytes table (d .a) (d .cells) (d .next) (d .kept) (d .seen) (d .row) × (d .a < size t)
       rows-ask = (d .ready (omega arith), rows-inside)
 
       pub lower-short : d .a < 65535
@@ -180,14 +190,16 @@ module _ {bytes table : List ℕ} {count : ℕ} (can : Writable bytes table coun
             pasted-written (races row) (races (raceRow t (d .a))) written-below long front (omega (arith, row-few)) in
             rw (add-one, below-next t (d .a)) (more .whole)
 
-        abbrev pub row-done : (notes kept : List ℕ) → RowsAt bytes table (d .a + 1) notes kept row
-            → RowsDone bytes table count
-        row-done notes kept ready =
+        abbrev pub row-done : (cells next kept seen : List ℕ)
+            → RowsAt bytes table (d .a + 1) cells next kept seen row → RowsDone bytes table count
+        row-done cells next kept seen ready =
             record {
               a = d .a + 1;
               at = d .at + found;
-              notes = notes;
+              cells = cells;
+              next = next;
               kept = kept;
+              seen = seen;
               row = row;
               below = omega (arith, rows-inside);
               few = row-few;

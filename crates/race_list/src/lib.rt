@@ -33,13 +33,24 @@ fn write_races(list: &mut [Race], file: &[u8], table: &[u16], count: usize)
     ensures { λ r. ⌜ now (list .exit)
         ≡ writtenOver (take count (raceList (traceOf (now (file .entry))))) (now (list .entry)) ⌝ }
 {
-    let mut notes = [0u32; 5152];
-    let mut kept = [0u32; 2048];
+    let mut cells = [0u32; 2080];
+    let mut next = [0u32; 1024];
+    let mut kept = [0u32; 1536];
+    let mut seen = [0u32; 1120];
     let mut row = [0u16; 1024];
     let mut a: usize = 0;
     let mut at: usize = 0;
     while at < count {
-        let found = race_rows::next_row(file, table, a, &mut notes, &mut kept, &mut row);
+        let found = race_rows::next_row(
+            file,
+            table,
+            a,
+            &mut cells,
+            &mut next,
+            &mut kept,
+            &mut seen,
+            &mut row,
+        );
         write_row(list, at, found, a as u16, &row);
         at += found;
         a += 1;

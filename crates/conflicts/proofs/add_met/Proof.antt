@@ -1,4 +1,5 @@
 -- `add_met` meets its contract. Assumes nothing.
+use native.Mathlib.Omega.{arith}
 use borrow.Author.Needs.{needs}
 use Rattle.conflicts.specs.Cells.{metAt}
 use Rattle.conflicts.proofs.MetWords.{bit-few}
@@ -23,28 +24,28 @@ element-copy-out-meets-2 c = search needs
 meets-requires : tie.Need-meets-requires
 meets-requires c κs = search needs
 
-add-bit-requires : tie.Need-add-bit-requires
-add-bit-requires c κs =
-    let c3 = c .before .before .before in
-    let a = c3 .args in
-    record {
-      few = c3 .pre .1;
-      low = rw (c .meets .ensures) (bit-few (metAt (a .cells .now) (a .first) (a .last) (a .at)));
-      inside = c3 .pre .2;
-    }
+mul-result : tie.Need-mul-result
+mul-result c = search needs
+
+add-result : tie.Need-add-result
+add-result c =
+    let a = c .before .before .before .args in
+    omega (arith, c .before .before .before .pre .1, c .meets .ensures,
+      bit-few (metAt (a .cells .now) (a .first) (a .last) (a .at)))
 
 returns : tie.Need-returns
-returns c = rw (c .add-bit .ensures, c .before .meets .ensures)
+returns c = rw (c .meets .ensures)
 
 pub add-met-spec : {M : Type 1} → statement M
 add-met-spec =
     tie.close
     (tie.spec
+    mul-result
     mul-meets
     element-copy-out-meets
     add-meets
     mul-meets-2
     element-copy-out-meets-2
     meets-requires
-    add-bit-requires
+    add-result
     returns)

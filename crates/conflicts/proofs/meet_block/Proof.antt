@@ -1,4 +1,5 @@
--- `meet_block` meets its contract. The invariant: the four words hold the first j bits. Assumes nothing.
+-- `meet_block` meets its contract. The invariant: the four words hold the bits from `left` on. Assumes nothing.
+use mathlib.Core.Path.{refl}
 use native.Mathlib.Omega.{arith}
 use Prim.Native.Nat.{_-_}
 use borrow.Author.Needs.{needs}
@@ -7,11 +8,11 @@ use Rattle.conflicts.proofs.meet_block.Statement.{statement}
 use Rattle.conflicts.proofs.meet_block.Tie as tie
 
 abbrev Inv-loop : tie.InvT-loop
-Inv-loop cells first last block seen at base x0₀ x1₀ x2₀ x3₀ j₀ x0 x1 x2 x3 j =
-    FourWords cells first last base j x0 x1 x2 x3
+Inv-loop cells first last block seen at base x0₀ x1₀ x2₀ x3₀ left₀ x0 x1 x2 x3 left =
+    FourWords cells first last base left x0 x1 x2 x3
 
 abbrev μ-loop : tie.MeasureT-loop
-μ-loop cells first last block seen at base x0₀ x1₀ x2₀ x3₀ j₀ x0 x1 x2 x3 j = 32 - j
+μ-loop cells first last block seen at base x0₀ x1₀ x2₀ x3₀ left₀ x0 x1 x2 x3 left = left
 
 mul-base : tie.Need-mul-base Inv-loop μ-loop
 mul-base c = search needs
@@ -26,13 +27,17 @@ add-i : tie.Need-add-i Inv-loop μ-loop
 add-i c = search needs
 
 add-met-requires : tie.Need-add-met-requires Inv-loop μ-loop
-add-met-requires c κs = (omega arith, four-few (c .before .loop .inv) .0, c .loop-test .taken)
+add-met-requires c κs =
+    let inv = c .before .loop .inv in
+    (omega (arith, inv .few), four-few inv (c .loop-test .taken) .0)
 
 add-add-met : tie.Need-add-add-met Inv-loop μ-loop
 add-add-met c = search needs
 
 add-met-requires-2 : tie.Need-add-met-requires-2 Inv-loop μ-loop
-add-met-requires-2 c κs = (omega arith, four-few (c .before .before .loop .inv) .1, c .before .loop-test .taken)
+add-met-requires-2 c κs =
+    let inv = c .before .before .loop .inv in
+    (omega (arith, inv .few), four-few inv (c .before .loop-test .taken) .1)
 
 add-add-met-2 : tie.Need-add-add-met-2 Inv-loop μ-loop
 add-add-met-2 c = search needs
@@ -40,7 +45,8 @@ add-add-met-2 c = search needs
 add-met-requires-3 : tie.Need-add-met-requires-3 Inv-loop μ-loop
 add-met-requires-3 c κs =
     let c2 = c .before .before in
-    (omega arith, four-few (c2 .before .loop .inv) .2, c2 .loop-test .taken)
+    let inv = c2 .before .loop .inv in
+    (omega (arith, inv .few), four-few inv (c2 .loop-test .taken) .2)
 
 add-add-met-3 : tie.Need-add-add-met-3 Inv-loop μ-loop
 add-add-met-3 c = search needs
@@ -48,19 +54,17 @@ add-add-met-3 c = search needs
 add-met-requires-4 : tie.Need-add-met-requires-4 Inv-loop μ-loop
 add-met-requires-4 c κs =
     let c3 = c .before .before .before in
-    (omega arith, four-few (c3 .before .loop .inv) .3, c3 .loop-test .taken)
-
-add-j : tie.Need-add-j Inv-loop μ-loop
-add-j c = search needs
+    let inv = c3 .before .loop .inv in
+    (omega (arith, inv .few), four-few inv (c3 .loop-test .taken) .3)
 
 loop-less : tie.Need-loop-less Inv-loop μ-loop
-loop-less c = search needs
+loop-less c = omega (arith, c .before .before .before .before .loop-test .taken)
 
 loop-again : tie.Need-loop-again Inv-loop μ-loop
 loop-again c =
     let c3 = c .before .before .before in
     let c4 = c3 .before in
-    four-more (c4 .before .loop .inv) (c4 .loop-test .taken) (c3 .add-met .ensures)
+    four-more (c4 .before .loop .inv) (c4 .loop-test .taken) refl (c3 .add-met .ensures)
     (c .before .before .add-met2 .ensures) (c .before .add-met3 .ensures) (c .add-met4 .ensures)
 
 mul-seen : tie.Need-mul-seen Inv-loop μ-loop
@@ -116,7 +120,6 @@ meet-block-spec =
     add-met-requires-3
     add-add-met-3
     add-met-requires-4
-    add-j
     loop-less
     loop-again
     mul-seen
