@@ -30,8 +30,12 @@ mul-result c = search needs
 add-result : tie.Need-add-result
 add-result c =
     let a = c .before .before .before .args in
-    omega (arith, c .before .before .before .pre .1, c .meets .ensures,
-      bit-few (metAt (a .cells .now) (a .first) (a .last) (a .at)))
+    omega (
+      arith,
+      c .before .before .before .pre .1,
+      c .meets .ensures,
+      bit-few (metAt (a .cells .now) (a .first) (a .last) (a .at)),
+    )
 
 returns : tie.Need-returns
 returns c = rw (c .meets .ensures)
