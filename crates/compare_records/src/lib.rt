@@ -57,7 +57,7 @@ pub fn of_records(
     numbers_of(answer)
 }
 
-// Notes what the call on records gave, what the call on two lists gave, and whether the memory is as due.
+// Notes what the call on records gave, what was due from it, and whether the memory is as due.
 pub fn note_calls(seen: &mut [u64; SEEN], given: Answer, due: Answer, memory: bool) {
     outcomes::compare(seen, given, due, memory);
     outcomes::count(seen, RACES, outcomes::value(due, 2) as u64);

@@ -62,33 +62,46 @@ fn most_due(room: usize) -> Answer {
     outcomes::success([16, 1024, test_memory::number(MOST), 0])
 }
 
-// Makes both calls, one after the other with the same lists. All numbers of the tables are compared, and all of the
-// lists with the races that are due, and behind them with what was there before.
-fn most_call(seen: &mut [u64; SEEN], file: &[u8], room: usize) {
-    let mut table = [0u16; TABLE];
-    let mut rows = [0u16; TABLE];
+// Makes the call on numbers. Its answer and all numbers of the lists are compared with what is due, those behind the
+// races with what was there before.
+fn most_numbers(seen: &mut [u64; SEEN], file: &[u8], table: &mut [u16], room: usize) {
     let mut lower = [0u16; ALL];
     let mut higher = [0u16; ALL];
     let due = most_due(room);
-    let written = outcomes::value(due, 2);
+    test_memory::fill(&mut lower);
+    test_memory::fill(&mut higher);
+    let given = compare_records::of_numbers(file, table, TABLE, &mut lower, &mut higher, room);
+    let memory = lists_hold(&lower, &higher, outcomes::value(due, 2));
+    outcomes::expect(seen, memory && outcomes::same(given, due));
+}
+
+// Makes the call on records, likewise.
+fn most_records(seen: &mut [u64; SEEN], file: &[u8], table: &mut [u16], room: usize) {
+    let mut lower = [0u16; ALL];
+    let mut higher = [0u16; ALL];
+    let due = most_due(room);
+    test_memory::fill(&mut lower);
+    test_memory::fill(&mut higher);
+    let given = compare_records::of_records(file, table, TABLE, &mut lower, &mut higher, room);
+    let memory = lists_hold(&lower, &higher, outcomes::value(due, 2));
+    compare_records::note_calls(seen, given, due, memory);
+}
+
+// Makes both calls, and compares all numbers of their tables.
+fn most_calls(seen: &mut [u64; SEEN], file: &[u8], room: usize) {
+    let mut table = [0u16; TABLE];
+    let mut rows = [0u16; TABLE];
     test_memory::fill(&mut table);
-    test_memory::fill(&mut lower);
-    test_memory::fill(&mut higher);
-    let first = compare_records::of_numbers(file, &mut table, TABLE, &mut lower, &mut higher, room);
-    let listed = lists_hold(&lower, &higher, written);
-    outcomes::expect(seen, listed && outcomes::same(first, due));
     test_memory::fill(&mut rows);
-    test_memory::fill(&mut lower);
-    test_memory::fill(&mut higher);
-    let given = compare_records::of_records(file, &mut rows, TABLE, &mut lower, &mut higher, room);
-    let memory = test_memory::holds(&rows, &table, TABLE) && lists_hold(&lower, &higher, written);
-    compare_records::note_calls(seen, given, first, memory);
+    most_numbers(seen, file, &mut table, room);
+    most_records(seen, file, &mut rows, room);
+    outcomes::expect(seen, test_memory::holds(&rows, &table, TABLE));
 }
 
 pub fn most_races(seen: &mut [u64; SEEN]) {
     let mut file = [0u8; 10250];
     put_most(&mut file);
-    most_call(seen, &file, MOST);
-    most_call(seen, &file, test_memory::less_one(MOST));
-    most_call(seen, &file, ALL);
+    most_calls(seen, &file, MOST);
+    most_calls(seen, &file, test_memory::less_one(MOST));
+    most_calls(seen, &file, ALL);
 }
