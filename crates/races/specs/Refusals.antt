@@ -2,7 +2,7 @@
 -- Follows: document 01, "The questions": "the race list [asks] 11, 16"; the place of 16 is "the number of races".
 -- Differs: nowhere. `AcceptedTable` and `RefusedTable`, for the file's questions and 11, are in the crate
 -- `order_table`, and `RefusedNext`, for a further question, in `trace`. `raceCount` is the length of the only list of
--- the races (crate `race_search`, proofs/OnlyList). proofs/Questions shows that the call refuses exactly so.
+-- the races (crate `race_model`, proofs/OnlyList). proofs/Questions shows that the call refuses exactly so.
 use mathlib.Core.List.{List, [], _∷_, _++_}
 use Prim.Native.Nat.{ℕ, _<_, _≤_}
 use Rattle.trace.specs.Refusals.{RefusedNext}

@@ -205,7 +205,8 @@ fn any_moves(
     while q < p {
         let due = pair::kept_due(kept, w, q);
         let gone = pair::kept_gone(kept, w, q);
-        any |= pair::moves_bit(pair::entry(table, p, a, q), due, own, gone);
+        let entry = pair::entry(table, p, a, q);
+        any |= pair::moves_bit(entry, due, own, gone);
         q += 1;
     }
     any

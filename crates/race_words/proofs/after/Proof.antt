@@ -1,5 +1,6 @@
 -- `after` meets its contract. Assumes nothing.
 use Rattle.race_words.proofs.RaceWords.{after-all, after-some}
+use native.Mathlib.Omega.{arith}
 use borrow.Author.Needs.{needs}
 use Rattle.race_words.proofs.after.Statement.{statement}
 use Rattle.race_words.proofs.after.Tie as tie
@@ -8,7 +9,7 @@ mul-if1 : tie.Need-mul-if1
 mul-if1 c = search needs
 
 returns : tie.Need-returns
-returns c = after-all (c .if1 .taken)
+returns c = after-all (omega (arith, c .if1 .taken))
 
 cast-above : tie.Need-cast-above
 cast-above c = search needs

@@ -53,14 +53,14 @@ mul-after c =
     let c1 = c .before in
     let c7 = c1 .before .before .before .before .before .before in
     let c10 = c7 .before .before .before in
-    omega (arith, out-few (c10 .pre .0) (c10 .pre .1) (c1 .loop .inv) (c7 .entry .ensures .1) (c .loop-test .taken))
+    omega (arith, out-few (c10 .pre .0) (c10 .pre .1) (c1 .loop .inv) (c7 .entry .ensures .1) (omega (arith, c .loop-test .taken)))
 
 element-copy-out-after : tie.Need-element-copy-out-after Inv-loop μ-loop
 element-copy-out-after c =
     let c1 = c .before in
     let c7 = c1 .before .before .before .before .before .before in
     let c10 = c7 .before .before .before in
-    omega (arith, out-few (c10 .pre .0) (c10 .pre .1) (c1 .loop .inv) (c7 .entry .ensures .1) (c .loop-test .taken))
+    omega (arith, out-few (c10 .pre .0) (c10 .pre .1) (c1 .loop .inv) (c7 .entry .ensures .1) (omega (arith, c .loop-test .taken)))
 
 let-one-requires : tie.Need-let-one-requires Inv-loop μ-loop
 let-one-requires c κs =
@@ -69,7 +69,7 @@ let-one-requires c κs =
     let c9 = c3 .before .before .before .before .before .before in
     let c12 = c9 .before .before .before in (
       two-workers (c12 .pre .0) (c12 .pre .1),
-      out-few (c12 .pre .0) (c12 .pre .1) (c3 .loop .inv) (c9 .entry .ensures .1) (c2 .loop-test .taken),
+      out-few (c12 .pre .0) (c12 .pre .1) (c3 .loop .inv) (c9 .entry .ensures .1) (omega (arith, c2 .loop-test .taken)),
     )
 
 wide-index-requires : tie.Need-wide-index-requires Inv-loop μ-loop

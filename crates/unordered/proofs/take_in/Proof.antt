@@ -40,14 +40,14 @@ mul-after c =
     let c1 = c .before in
     let c5 = c1 .before .before .before .before in
     let c8 = c5 .before .before .before in
-    omega (arith, in-few (c8 .pre .0) (c8 .pre .1) (c1 .loop .inv) (c5 .entry .ensures .1) (c .loop-test .taken))
+    omega (arith, in-few (c8 .pre .0) (c8 .pre .1) (c1 .loop .inv) (c5 .entry .ensures .1) (omega (arith, c .loop-test .taken)))
 
 element-copy-out-after : tie.Need-element-copy-out-after Inv-loop μ-loop
 element-copy-out-after c =
     let c1 = c .before in
     let c5 = c1 .before .before .before .before in
     let c8 = c5 .before .before .before in
-    omega (arith, in-few (c8 .pre .0) (c8 .pre .1) (c1 .loop .inv) (c5 .entry .ensures .1) (c .loop-test .taken))
+    omega (arith, in-few (c8 .pre .0) (c8 .pre .1) (c1 .loop .inv) (c5 .entry .ensures .1) (omega (arith, c .loop-test .taken)))
 
 take-one-requires : tie.Need-take-one-requires Inv-loop μ-loop
 take-one-requires c κs =
@@ -56,7 +56,7 @@ take-one-requires c κs =
     let c7 = c3 .before .before .before .before in
     let c10 = c7 .before .before .before in (
       two-workers (c10 .pre .0) (c10 .pre .1),
-      in-few (c10 .pre .0) (c10 .pre .1) (c3 .loop .inv) (c7 .entry .ensures .1) (c2 .loop-test .taken),
+      in-few (c10 .pre .0) (c10 .pre .1) (c3 .loop .inv) (c7 .entry .ensures .1) (omega (arith, c2 .loop-test .taken)),
     )
 
 wide-index-requires : tie.Need-wide-index-requires Inv-loop μ-loop
