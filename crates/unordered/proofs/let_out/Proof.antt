@@ -81,7 +81,7 @@ rank-requires-2 c κs =
     let c5 = c4 .before in
     let c11 = c5 .before .before .before .before .before .before in
     let c14 = c11 .before .before .before in
-    out-row (c14 .pre .0) (c14 .pre .1) (c5 .loop .inv) (c11 .entry .ensures .1) (c4 .loop-test .taken)
+    out-row (c14 .pre .0) (c14 .pre .1) (c5 .loop .inv) (c11 .entry .ensures .1) (omega (arith, c4 .loop-test .taken))
     (c .wide-index .ensures .0)
 
 loop-less : tie.Need-loop-less Inv-loop μ-loop
@@ -104,7 +104,7 @@ loop-again c =
     let c12 = c6 .before .before .before .before .before .before in
     let c15 = c12 .before .before .before in
     out-more (c15 .pre .0) (c15 .pre .1) (c6 .loop .inv) (c12 .entry .ensures .1) (c12 .entry .ensures .0)
-    (c5 .loop-test .taken) (c2 .let-one .ensures) (c1 .wide-index .ensures .0) (c .rank2 .ensures)
+    (omega (arith, c5 .loop-test .taken)) (c2 .let-one .ensures) (c1 .wide-index .ensures .0) (c .rank2 .ensures)
 
 returns : tie.Need-returns Inv-loop μ-loop
 returns c =

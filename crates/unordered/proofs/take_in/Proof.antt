@@ -87,7 +87,7 @@ loop-again c =
     let c10 = c6 .before .before .before .before in
     let c13 = c10 .before .before .before in
     in-more (c13 .pre .0) (c13 .pre .1) (c6 .loop .inv) (c10 .entry .ensures .1) (c10 .entry .ensures .0)
-    (c5 .loop-test .taken) (c2 .take-one .ensures) (c1 .wide-index .ensures .0) (c .rank2 .ensures)
+    (omega (arith, c5 .loop-test .taken)) (c2 .take-one .ensures) (c1 .wide-index .ensures .0) (c .rank2 .ensures)
 
 returns : tie.Need-returns Inv-loop μ-loop
 returns c =
