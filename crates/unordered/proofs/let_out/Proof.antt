@@ -53,14 +53,22 @@ mul-after c =
     let c1 = c .before in
     let c7 = c1 .before .before .before .before .before .before in
     let c10 = c7 .before .before .before in
-    omega (arith, out-few (c10 .pre .0) (c10 .pre .1) (c1 .loop .inv) (c7 .entry .ensures .1) (omega (arith, c .loop-test .taken)))
+    omega (
+      arith,
+      out-few (c10 .pre .0) (c10 .pre .1) (c1 .loop .inv) (c7 .entry .ensures .1)
+          (omega (arith, c .loop-test .taken)),
+    )
 
 element-copy-out-after : tie.Need-element-copy-out-after Inv-loop μ-loop
 element-copy-out-after c =
     let c1 = c .before in
     let c7 = c1 .before .before .before .before .before .before in
     let c10 = c7 .before .before .before in
-    omega (arith, out-few (c10 .pre .0) (c10 .pre .1) (c1 .loop .inv) (c7 .entry .ensures .1) (omega (arith, c .loop-test .taken)))
+    omega (
+      arith,
+      out-few (c10 .pre .0) (c10 .pre .1) (c1 .loop .inv) (c7 .entry .ensures .1)
+          (omega (arith, c .loop-test .taken)),
+    )
 
 let-one-requires : tie.Need-let-one-requires Inv-loop μ-loop
 let-one-requires c κs =
@@ -93,7 +101,7 @@ loop-less c =
     let c15 = c12 .before .before .before in
     let taken = c5 .loop-test .taken in
     let next = c1 .wide-index .ensures .0 in
-    omega (arith, out-ahead (c15 .pre .0) (c15 .pre .1) (c6 .loop .inv) (c12 .entry .ensures .1) taken next)
+    omega (arith, out-ahead (c15 .pre .0) (c15 .pre .1) (c6 .loop .inv) (c12 .entry .ensures .1) (omega (arith, taken)) next)
 
 loop-again : tie.Need-loop-again Inv-loop μ-loop
 loop-again c =
@@ -111,7 +119,7 @@ returns c =
     let c1 = c .before in
     let c7 = c1 .before .before .before .before .before .before in
     let c10 = c7 .before .before .before in
-    out-end (c10 .pre .0) (c10 .pre .1) (c1 .loop .inv) (c7 .entry .ensures .0) (c .loop-test .left)
+    out-end (c10 .pre .0) (c10 .pre .1) (c1 .loop .inv) (c7 .entry .ensures .0) (omega (arith, c .loop-test .left))
 
 pub let-out-spec : {M : Type 1} → statement M
 let-out-spec =

@@ -40,14 +40,22 @@ mul-after c =
     let c1 = c .before in
     let c5 = c1 .before .before .before .before in
     let c8 = c5 .before .before .before in
-    omega (arith, in-few (c8 .pre .0) (c8 .pre .1) (c1 .loop .inv) (c5 .entry .ensures .1) (omega (arith, c .loop-test .taken)))
+    omega (
+      arith,
+      in-few (c8 .pre .0) (c8 .pre .1) (c1 .loop .inv) (c5 .entry .ensures .1)
+          (omega (arith, c .loop-test .taken)),
+    )
 
 element-copy-out-after : tie.Need-element-copy-out-after Inv-loop μ-loop
 element-copy-out-after c =
     let c1 = c .before in
     let c5 = c1 .before .before .before .before in
     let c8 = c5 .before .before .before in
-    omega (arith, in-few (c8 .pre .0) (c8 .pre .1) (c1 .loop .inv) (c5 .entry .ensures .1) (omega (arith, c .loop-test .taken)))
+    omega (
+      arith,
+      in-few (c8 .pre .0) (c8 .pre .1) (c1 .loop .inv) (c5 .entry .ensures .1)
+          (omega (arith, c .loop-test .taken)),
+    )
 
 take-one-requires : tie.Need-take-one-requires Inv-loop μ-loop
 take-one-requires c κs =
@@ -76,7 +84,7 @@ loop-less c =
     let c13 = c10 .before .before .before in
     let taken = c5 .loop-test .taken in
     let next = c1 .wide-index .ensures .0 in
-    omega (arith, in-ahead (c13 .pre .0) (c13 .pre .1) (c6 .loop .inv) (c10 .entry .ensures .1) taken next)
+    omega (arith, in-ahead (c13 .pre .0) (c13 .pre .1) (c6 .loop .inv) (c10 .entry .ensures .1) (omega (arith, taken)) next)
 
 loop-again : tie.Need-loop-again Inv-loop μ-loop
 loop-again c =
@@ -94,7 +102,7 @@ returns c =
     let c1 = c .before in
     let c5 = c1 .before .before .before .before in
     let c8 = c5 .before .before .before in
-    in-end (c8 .pre .0) (c8 .pre .1) (c1 .loop .inv) (c5 .entry .ensures .0) (c .loop-test .left)
+    in-end (c8 .pre .0) (c8 .pre .1) (c1 .loop .inv) (c5 .entry .ensures .0) (omega (arith, c .loop-test .left))
 
 pub take-in-spec : {M : Type 1} → statement M
 take-in-spec =
