@@ -101,7 +101,10 @@ loop-less c =
     let c15 = c12 .before .before .before in
     let taken = c5 .loop-test .taken in
     let next = c1 .wide-index .ensures .0 in
-    omega (arith, out-ahead (c15 .pre .0) (c15 .pre .1) (c6 .loop .inv) (c12 .entry .ensures .1) (omega (arith, taken)) next)
+    omega (
+      arith,
+      out-ahead (c15 .pre .0) (c15 .pre .1) (c6 .loop .inv) (c12 .entry .ensures .1) (omega (arith, taken)) next,
+    )
 
 loop-again : tie.Need-loop-again Inv-loop μ-loop
 loop-again c =
