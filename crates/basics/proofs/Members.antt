@@ -49,6 +49,7 @@ in-by-contradiction x l f = elim (in? x l) [ inl m ↦ m | inr n ↦ absurd (f n
 
 module _ (p : ℕ → Bool) where
   all_in : (l : List ℕ) → T (all_of p l) → (x : ℕ) → x ∈ l → T (p x)
+  all_in [] h x x4 = elim x4 [ ]
   all_in (y ∷ l) h x (Memᴰ.head e) = rw e (and_left (p y) (all_of p l) h)
   all_in (y ∷ l) h x (Memᴰ.tail m) = all_in l (and_right (p y) (all_of p l) h) x m
 
@@ -68,6 +69,7 @@ module _ (p : ℕ → Bool) where
       go (inr k) f = let t = f k in (t.0, there t.1, t.2)
 
   any-from : (l : List ℕ) (x : ℕ) → x ∈ l → T (p x) → T (any_of p l)
+  any-from [] x x4 h = elim x4 [ ]
   any-from (y ∷ l) x (Memᴰ.head e) h = or_left (p y) (any_of p l) (rw e at h)
   any-from (y ∷ l) x (Memᴰ.tail m) h = or_right (p y) (any_of p l) (any-from l x m h)
 
