@@ -1,5 +1,6 @@
 // The questions that every call asks of a file first, of any bytes; reading a file asks no others. The index of a file
 // that reads as a trace is filled on the way, and handed on.
+#![tactic(auto)]
 ghost use Rattle.std.specs.Prelude.{◌≡◌};
 ghost use Rattle.trace.specs.Premises.{HoldsTrace};
 ghost use Rattle.trace.specs.Reading.{file_reading, trace_of};
@@ -14,7 +15,7 @@ ghost use Rattle.accept.specs.Handing.{HandedOn, Spaces};
 use reader::ReadAnswer;
 
 // The worker count and the operation count of an accepted file, or the refusal.
-#[derive(Drop)]
+#[derive(Clone, Copy)]
 pub enum AcceptAnswer {
     Accepted { workers: u8, operations: u32 },
     Refused { number: u8, place: u32 },

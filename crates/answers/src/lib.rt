@@ -1,6 +1,7 @@
 // The answers of the calls that the C interface has, through it, as numbers. Each lends the first numbers of its
 // memory, as many as are said; where there are not so many, the call is not made, and the answer is one that no call
 // gives.
+#![tactic(auto)]
 use outcomes::Answer;
 
 pub fn accept_answer(file: &[u8]) -> Answer {

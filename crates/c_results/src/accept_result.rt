@@ -5,7 +5,7 @@ ghost use Rattle.c_results.specs.Results.{accept_result};
 use accept::AcceptAnswer;
 
 #[repr(C)]
-#[derive(Drop)]
+#[derive(Clone, Copy)]
 pub struct AcceptResult {
     pub number: u8,
     pub place: u32,

@@ -6,7 +6,7 @@ use beginning::Prefix;
 
 // Which list, 0 the first and 1 the second, and how many of its first numbers. It refuses nothing.
 #[repr(C)]
-#[derive(Drop)]
+#[derive(Clone, Copy)]
 pub struct BeginningResult {
     pub list: u32,
     pub length: usize,

@@ -5,7 +5,7 @@ ghost use Rattle.c_results.specs.Results.{canonical_result};
 use canonical::CanonicalAnswer;
 
 #[repr(C)]
-#[derive(Drop)]
+#[derive(Clone, Copy)]
 pub struct CanonicalResult {
     pub number: u8,
     pub place: u32,

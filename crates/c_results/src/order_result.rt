@@ -5,7 +5,7 @@ ghost use Rattle.c_results.specs.Results.{order_result};
 use pair_order::OrderAnswer;
 
 #[repr(C)]
-#[derive(Drop)]
+#[derive(Clone, Copy)]
 pub struct OrderResult {
     pub number: u8,
     pub place: u32,

@@ -5,7 +5,7 @@ ghost use Rattle.c_results.specs.Results.{races_result};
 use races::RacesAnswer;
 
 #[repr(C)]
-#[derive(Drop)]
+#[derive(Clone, Copy)]
 pub struct RacesResult {
     pub number: u8,
     pub place: u32,

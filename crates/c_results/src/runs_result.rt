@@ -5,7 +5,7 @@ ghost use Rattle.c_results.specs.Results.{runs_result};
 use two_runs::RunsAnswer;
 
 #[repr(C)]
-#[derive(Drop)]
+#[derive(Clone, Copy)]
 pub struct RunsResult {
     pub number: u8,
     pub place: u32,

@@ -5,7 +5,7 @@ ghost use Rattle.c_results.specs.Results.{table_result};
 use order_table::TableAnswer;
 
 #[repr(C)]
-#[derive(Drop)]
+#[derive(Clone, Copy)]
 pub struct TableResult {
     pub number: u8,
     pub place: u32,

@@ -1,5 +1,6 @@
 // The C interface: calls under C names, on numbers and slices; an answer is a struct of numbers (crate `c_results`), by
 // value. A slice is a pointer and a length in C. include/mersohki.h declares all of it.
+#![tactic(auto)]
 ghost use Rattle.std.specs.Prelude.{◌≡◌};
 ghost use Rattle.accept.specs.Acceptance.{accept_answer};
 ghost use Rattle.pair_order.specs.Order.{order_answer};

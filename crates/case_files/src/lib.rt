@@ -1,4 +1,5 @@
 // The file at hand of typed cases, as lines change it; what they say is told at the head of `typed_cases`.
+#![tactic(auto)]
 use case_lines::Line;
 
 // The largest file that can be lent.

@@ -1,4 +1,5 @@
 // Lines of text: a word, and numbers behind it. A line that starts with '#' is a comment.
+#![tactic(auto)]
 
 fn byte_at(text: &[u8], i: usize) -> u8 {
     if i < text.len() {
@@ -9,7 +10,7 @@ fn byte_at(text: &[u8], i: usize) -> u8 {
 
 // A line: its word, how many numbers it has, the numbers, whether the last byte read was a digit, and where the next
 // line starts.
-#[derive(Drop)]
+#[derive(Clone, Copy)]
 pub struct Line {
     pub word: usize,
     pub count: usize,

@@ -1,4 +1,5 @@
 // The pair order, the two runs and the beginning of a run, compared with what all runs say.
+#![tactic(auto)]
 use outcomes::{Answer, SEEN};
 
 // The order of a pair

@@ -1,6 +1,7 @@
 // Runs the calls on the typed cases of its standard input, on random traces of up to eight operations and four workers,
 // on damaged files, on random pairs of lists, and on large random traces, compares their answers and lent memory with
 // what is due, and prints what was seen. The first line has the mismatches of each of these parts.
+#![tactic(auto)]
 use libc::{STDIN_FILENO, STDOUT_FILENO};
 use outcomes::{FILES, KINDS, MISMATCHES, NUMBERS, SEEN};
 

@@ -1,5 +1,6 @@
 // Where a walk starts, with nothing left out or without an operation, and what its end tells. For the crates above,
 // which have read the file and filled its index before.
+#![tactic(auto)]
 ghost use Rattle.std.specs.Prelude.{List, ◌≡◌, ℕ, ◌+◌, ◌-◌, ◌<◌, ◌≤◌, length, get_or, set};
 ghost use Rattle.trace.specs.Premises.{Fits};
 ghost use Rattle.trace.specs.Trace.{Trace, size};
@@ -151,7 +152,7 @@ pub fn walk_without(
 }
 
 // The done counts at the end of the walk without an operation, and, with that let in, at the end of the whole walk.
-#[derive(Drop)]
+#[derive(Clone, Copy)]
 pub struct Twice {
     pub held: [u16; 16],
     pub whole: [u16; 16],

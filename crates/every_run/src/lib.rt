@@ -1,4 +1,5 @@
 // Runs of a trace of up to eight operations: every one of them is tried.
+#![tactic(auto)]
 use small_rules::Rules;
 
 // The lowest operation from `from` on that may follow, or 8.
@@ -12,7 +13,7 @@ fn following(r: Rules, done: u8, from: usize) -> usize {
 }
 
 // The run at hand in the search through all runs. `from` is the lowest operation that was not yet tried behind it.
-#[derive(Drop)]
+#[derive(Clone, Copy)]
 pub struct Search {
     list: [u8; 8],
     length: usize,

@@ -1,4 +1,5 @@
 // What is due from the calls on a file of up to eight operations: what all its runs say, by document 01's words.
+#![tactic(auto)]
 use outcomes::Answer;
 use small_rules::Rules;
 
@@ -17,7 +18,7 @@ fn of_worker(file: &[u8], set: u8, q: usize) -> u16 {
 // known, that the search came to its end, that each largest run contains every run that lacks its operation, and that a
 // trace with a complete run has no dead end; `shared`, that the file is accepted and the event of some Wait has several
 // Posts.
-#[derive(Drop)]
+#[derive(Clone, Copy)]
 pub struct Judgement {
     pub number: u8,
     pub place: u32,

@@ -1,8 +1,9 @@
 // Files of large random traces, and of the same traces in another file order, for tests.
+#![tactic(auto)]
 ghost use Rattle.std.specs.Prelude.{◌≤◌};
 
 // How a trace is drawn.
-#[derive(Drop)]
+#[derive(Clone, Copy)]
 struct Style {
     workers: u32,
     events: u32,
@@ -56,7 +57,7 @@ fn style_of(seed: u64) -> Style {
 }
 
 // The events of the last sixteen Posts, and how many there were.
-#[derive(Drop)]
+#[derive(Clone, Copy)]
 struct Posted {
     count: u32,
     events: [u32; 16],

@@ -1,1 +1,2 @@
 // No code: what a call leaves in lent memory, in specs/ and proofs/.
+#![tactic(auto)]

@@ -1,8 +1,10 @@
 // Runs the race list on records, through a local list of records, on example A of document 01, on the trace with the
 // most races, on random traces and on damaged files; compares it with the race list on two lists of numbers, and prints
 // what was seen. The first line has the mismatches of each of these parts.
+#![tactic(auto)]
 use compare_records::{LIST, TABLE};
 use libc::STDOUT_FILENO;
+use most_races::MOST;
 use outcomes::{MISMATCHES, NUMBERS, RACES, SEEN};
 
 // Example A
@@ -57,21 +59,10 @@ fn size_near(file: &[u8], seed: u64) -> usize {
     test_memory::less_one(size)
 }
 
-// How many races there are, told by the refusal where no place is lent for them; 0 where there is none, or the file or
-// the table is refused.
-fn race_count(file: &[u8]) -> usize {
-    let mut table = [0u16; TABLE];
-    let mut lower = [0u16; 1];
-    let mut higher = [0u16; 1];
-    let answer = compare_records::of_numbers(file, &mut table, TABLE, &mut lower, &mut higher, 0);
-    if answer.number == 16 {
-        return answer.place as usize;
-    }
-    0
-}
-
 fn random_call(seen: &mut [u64; SEEN], file: &[u8], seed: u64) {
-    let room = room_near(race_count(file), seed);
+    let mut table = [0u16; TABLE];
+    let answer = races::fill_and_count(file, &mut table, MOST);
+    let room = room_near(races::to_write(answer), seed);
     compare_records::compare_calls(seen, file, size_near(file, random_files::next(seed)), room);
 }
 

@@ -1,1 +1,2 @@
 // No code: runs of a trace, in specs/, and the theorems about them, in proofs/.
+#![tactic(auto)]

@@ -1,4 +1,5 @@
 // The order table of a file, written to a lent table.
+#![tactic(auto)]
 ghost use Rattle.trace.specs.Premises.{HoldsTrace};
 ghost use Rattle.trace.specs.Reading.{trace_of};
 ghost use Rattle.index.specs.Steps.{Handed};
@@ -8,7 +9,7 @@ ghost use Rattle.order_table.specs.Table.{TableCall};
 use accept::AcceptAnswer;
 
 // The worker count and the operation count of the filled table, or the refusal.
-#[derive(Drop)]
+#[derive(Clone, Copy)]
 pub enum TableAnswer {
     Filled { workers: u8, operations: u32 },
     Refused { number: u8, place: u32 },

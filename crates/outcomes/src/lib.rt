@@ -1,7 +1,8 @@
 // What a call comes to, as numbers that can be compared; and what was seen, counted.
+#![tactic(auto)]
 
 // What a call answers: the number 0 and its values, or the number and place of its refusal.
-#[derive(Drop)]
+#[derive(Clone, Copy)]
 pub struct Answer {
     pub number: u8,
     pub place: u32,

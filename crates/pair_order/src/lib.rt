@@ -1,4 +1,5 @@
 // The order of two operations of a file's trace.
+#![tactic(auto)]
 ghost use Rattle.std.specs.Prelude.{true, false, ◌≢◌, ◌≡◌, ◌<◌};
 ghost use Rattle.trace.specs.Reading.{trace_of};
 ghost use Rattle.runs.specs.Workers.{earlier};
@@ -13,14 +14,14 @@ use accept::AcceptAnswer;
 use reader::ReadAnswer;
 
 // The pair order, −1, 0 or +1; or the refusal.
-#[derive(Drop)]
+#[derive(Clone, Copy)]
 pub enum OrderAnswer {
     Ordered { sign: i8 },
     Refused { number: u8, place: u32 },
 }
 
 // A refusal's number and place.
-#[derive(Drop)]
+#[derive(Clone, Copy)]
 pub struct Refusal {
     pub number: u8,
     pub place: u32,

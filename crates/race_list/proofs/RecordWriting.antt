@@ -1,25 +1,28 @@
 -- Writing races as records. In order: a row of races, for the loop over it; all races, row by row, for the loop over
 -- the rows; what is left to be written, for the call.
-use mathlib.Core.List.{List, [], ◌∷◌, map}
+use mathlib.Core.List.{List, [], ◌∷◌, ◌++◌, map, append_assoc, append-nil}
+use mathlib.Core.Logic.{inl, inr}
 use mathlib.Core.Path.{◌≡◌, refl, sym, ap, ◌∙◌}
 use native.Mathlib.Numerals.{add-one}
 use native.Mathlib.Omega.{arith}
 use Prim.Native.Nat.{ℕ, zero, suc, ◌+◌, ◌<◌, ◌≤◌}
 use lib.ListN.{length, get_or, set, take, replicate, length-map, length-replicate, get_or-map}
-use lib.Seq.{paste, paste-suc, length-paste}
+use lib.Seq.{paste, paste-suc, length-paste, take_at}
+use Rattle.basics.proofs.Booleans.{equal?}
 use Rattle.trace.specs.Reading.{trace_of}
 use Rattle.trace.specs.Trace.{Trace, size}
 use Rattle.lent.specs.Written.{written_over}
 use Rattle.lent.proofs.Writing.{Written, written-by}
 use Rattle.race_model.specs.declared.Race.{Race}
-use Rattle.race_model.specs.RaceList.{pair, races_below}
+use Rattle.race_model.specs.RaceList.{pair, races_below, race_list, race_count}
 use Rattle.table_entries.proofs.TableEntries.{table-short}
 use Rattle.race_model.specs.RaceRows.{race_row, RowHolds}
-use Rattle.race_model.proofs.RowLists.{row_count, below-start, below_next, below-count, below-grows, row_room}
-use Rattle.race_rows.specs.Rows.{RowsAt, Hints}
+use Rattle.race_model.proofs.RowLists.{row_count, below-start, below_next, below_all, below-count, below-few}
+use Rattle.race_rows.specs.Rows.{RowsAt}
 use Rattle.race_rows.proofs.RowStart.{rows_start}
-use Rattle.order_table.specs.declared.TableAnswer.{TableAnswer}
-use Rattle.races.specs.Premises.{rows_of, AskCall, Writable, answer_with}
+use Rattle.races.specs.declared.RacesAnswer.{RacesAnswer}
+use Rattle.races.specs.Premises.{Writable}
+use Rattle.races.specs.Races.{to_write, CountCall}
 use Rattle.races.proofs.Answers.{left-to-write}
 use Rattle.races.proofs.PairWriting.{pasted-written}
 use Rattle.race_list.specs.Listing.{ListCall}
@@ -49,6 +52,10 @@ module _ (old : List Race) (at lower : ℕ) (row : List ℕ) (i : ℕ) where
       rw (add-one i, ← get_or-map (pair lower) row i 0)
       (paste-suc old at (map (pair lower) row) i (pair lower 0) l (omega (arith, long, m)))
 
+-- the first i races of a trace are written over a list
+abbrev pub listed : Trace → List Race → ℕ → List Race
+listed t old i = written_over (take i (race_list t)) old
+
 -- ---- all races, row by row, for the loop over the rows
 
 -- the lengths of the arrays that the search by rows is lent
@@ -74,9 +81,9 @@ rows_over t old a = written_over (races_below t a) old
 pub over_none : (t : Trace) (old : List Race) → old ≡ rows_over t old 0
 over_none t old = rw (below-start t)
 
--- where the loop stands: of `rows` rows, the `at` races of those below a are written, and, unless none is to be written,
--- the search by rows has come to a
-pub record RowsDone (bytes table : List ℕ) (rows : ℕ) : Type 0 where
+-- where the loop stands: the `at` races whose lower operation is below a are written, and, unless none is to be
+-- written, the search by rows has come to a
+pub record RowsDone (bytes table : List ℕ) (count : ℕ) : Type 0 where
   pub a : ℕ
   pub at : ℕ
   pub cells : List ℕ
@@ -84,17 +91,30 @@ pub record RowsDone (bytes table : List ℕ) (rows : ℕ) : Type 0 where
   pub kept : List ℕ
   pub seen : List ℕ
   pub row : List ℕ
-  pub below : a ≤ rows
+  pub below : a ≤ size (trace_of bytes)
+  pub few : at ≤ count
   pub counts : at ≡ length (races_below (trace_of bytes) a)
-  pub ready : 1 ≤ rows → RowsAt bytes table a cells next kept seen row
+  pub ready : 1 ≤ count → RowsAt bytes table a cells next kept seen row
 
-module _ {bytes table counts : List ℕ} {rows : ℕ} (old : List Race)
-    (can : Writable bytes table counts rows (length old)) where
-  abbrev t : Trace
-  t = trace_of bytes
+-- they come first in the list of all races
+below_rest : (t : Trace) (a c : ℕ) → a ≤ c → (rest : List Race) × (races_below t c ≡ races_below t a ++ rest)
+below_rest t a zero l = let e : a ≡ 0 = omega arith in ([], rw e (sym (append-nil (races_below t 0))))
+below_rest t a (suc c) l = elim (equal? a (suc c)) [
+  | inl e ↦ ([], rw e (sym (append-nil (races_below t (suc c)))))
+  | inr d ↦
+      let (rest, e) = below_rest t a c (omega (arith, d)) in
+      let more = map (pair c) (race_row t c) in
+      (rest ++ more, rw (below_next t c, e) (append_assoc (races_below t a) rest more))
+]
 
+below-front : (t : Trace) (a : ℕ) → a ≤ size t → take (length (races_below t a)) (race_list t) ≡ races_below t a
+below-front t a l =
+    let (rest, e) = below_rest t a (size t) l in
+    rw (← below_all t, e) (take_at (races_below t a) rest (length (races_below t a)) refl)
+
+module _ {bytes table : List ℕ} {count : ℕ} (can : Writable bytes table count) where
   -- nothing is written, and the arrays hold zeros
-  abbrev pub rows-first : RowsDone bytes table rows
+  abbrev pub rows-first : RowsDone bytes table count
   rows-first =
       record {
         a = 0;
@@ -105,45 +125,56 @@ module _ {bytes table counts : List ℕ} {rows : ℕ} (old : List Race)
         seen = replicate seen_length 0;
         row = replicate row_length 0;
         below = omega arith;
-        counts = sym (ap length (below-start t));
+        few = omega arith;
+        counts = sym (ap length (below-start (trace_of bytes)));
         ready =
             λ l.
             rows_start (can.holds l) (length-replicate {A = ℕ} cells_length 0) (length-replicate {A = ℕ} next_length 0)
             (length-replicate {A = ℕ} seen_length 0) (length-replicate {A = ℕ} row_length 0);
       }
 
-  module _ (d : RowsDone bytes table rows) where
+  module _ (old : List Race) (room : count ≤ length old) (d : RowsDone bytes table count) where
+    abbrev t : Trace
+    t = trace_of bytes
+
     written_below : Written d.at (races_below t d.a) old (rows_over t old d.a)
-    written_below =
-        written-by (sym d.counts) (omega (arith, d.counts, below-grows t d.a rows d.below, can.fits)) refl
+    written_below = written-by (sym d.counts) (omega (arith, d.few)) refl
 
     -- the list is as long as before
     pub over-length : length (rows_over t old d.a) ≡ length old
     over-length = written_below.size
 
-    -- ---- the end: all rows are written
+    -- ---- the end: all that are to be written are written
 
-    pub rows-over : rows ≤ d.a
-        → (d.at ≡ length (races_below t rows)) × (rows_over t old d.a ≡ rows_over t old rows)
-    rows-over l = let e : d.a ≡ rows = omega (arith, d.below) in (rw e at d.counts, rw e)
+    pub rows-over : count ≤ d.at → rows_over t old d.a ≡ listed t old count
+    rows-over l =
+        let e : count ≡ length (races_below t d.a) = omega (arith, d.few, d.counts) in
+        rw (e, below-front t d.a d.below)
 
     -- ---- a row more
 
-    module _ (less : d.a < rows) where
-      pub rows_inside : d.a < size t
-      rows_inside = omega (arith, can.below)
+    module _ (less : d.at < count) where
+      all : count ≡ race_count t
+      all = can.all (omega arith)
 
-      pub rows-ask : RowsAt bytes table d.a d.cells d.next d.kept d.seen d.row
-          × (d.a < size t)
-          × Hints t counts
-      rows-ask = (d.ready (omega arith), rows_inside, can.hints (omega arith))
+      pub rows_inside : d.a < size t
+      rows_inside = elim (equal? d.a (size t)) [
+        | inl e ↦
+            let last : length (races_below t d.a) ≡ race_count t = rw e (ap length (below_all t)) in
+            absurd (omega (arith, all, d.counts, last))
+        | inr n ↦ omega (arith, n, d.below)
+      ]
+
+      pub rows-ask : RowsAt bytes table d.a d.cells d.next d.kept d.seen d.row × (d.a < size t)
+      rows-ask = (d.ready (omega arith), rows_inside)
 
       pub lower-short : d.a < 65535
       lower-short = omega (arith, rows_inside, table-short (can.holds (omega arith)))
 
       module _ {found : ℕ} {row : List ℕ} (r : RowHolds (race_row t d.a) found row) where
-        pub row_few : d.at + found ≤ length old
-        row_few = omega (arith, row_room t d.counts less r, can.fits)
+        pub row_few : d.at + found ≤ count
+        row_few =
+            omega (arith, all, d.counts, below-count t d.a, row_count r, below-few t (suc d.a) rows_inside)
 
         pub row_fits : (d.at + found ≤ length (rows_over t old d.a)) × (found ≤ length row)
         row_fits = (omega (arith, row_few, over-length), omega (arith, r.few, r.long))
@@ -155,11 +186,12 @@ module _ {bytes table counts : List ℕ} {rows : ℕ} (old : List Race)
             length-map (race_row t d.a) (pair d.a) ∙ row_count r in
             let front : take found (races row) ≡ races (race_row t d.a) =
             rw (← r.front) (take-races d.a found row) in
-            let more = pasted-written (races row) (races (race_row t d.a)) written_below long front row_few in
+            let more =
+            pasted-written (races row) (races (race_row t d.a)) written_below long front (omega (arith, row_few)) in
             rw (add-one, below_next t d.a) more.whole
 
         abbrev pub row_done : (cells next kept seen : List ℕ)
-            → RowsAt bytes table (d.a + 1) cells next kept seen row → RowsDone bytes table rows
+            → RowsAt bytes table (d.a + 1) cells next kept seen row → RowsDone bytes table count
         row_done cells next kept seen ready =
             record {
               a = d.a + 1;
@@ -169,27 +201,24 @@ module _ {bytes table counts : List ℕ} {rows : ℕ} (old : List Race)
               kept = kept;
               seen = seen;
               row = row;
-              below = omega (arith, less);
+              below = omega (arith, rows_inside);
+              few = row_few;
               counts = rw add-one (omega (arith, d.counts, below-count t d.a, row_count r));
               ready = λ _. ready;
             }
 
-module _ {bytes lent now counts : List ℕ} {asked : TableAnswer} {rows : ℕ} (list : List Race)
-    (call : AskCall bytes lent (length list) asked now counts) (e : rows ≡ rows_of asked) where
-  -- the rows that are left to be written can be written, and have no more races than an answer can tell
-  pub call-leaves : Writable bytes now counts rows (length list)
-  call-leaves = (left-to-write call e).writable
-
-  pub call-few : length (races_below (trace_of bytes) rows) ≤ 1048576
-  call-few = (left-to-write call e).few
+module _ {bytes table table-now : List ℕ} {answer : RacesAnswer} {n : ℕ} (list : List Race)
+    (call : CountCall bytes table (length list) answer table-now) (e : n ≡ to_write answer) where
+  -- the races that are left to be written can be written, and there is room for them
+  pub call-leaves : Writable bytes table-now n × (n ≤ length list)
+  call-leaves = rw e ((left-to-write call).writable, (left-to-write call).fits)
 
   -- where they are written, the call keeps its promise
-  pub call_kept : {count : ℕ} {list-now : List Race}
-      → (count ≡ length (races_below (trace_of bytes) rows)) × (list-now ≡ rows_over (trace_of bytes) list rows)
-      → ListCall bytes lent list (answer_with asked count) now list-now
-  call_kept (c, w) =
+  pub call_kept : {list-now : List Race} → list-now ≡ listed (trace_of bytes) list n
+      → ListCall bytes table list answer table-now list-now
+  call_kept w =
       record {
-        answers = rw c (left-to-write call e).answers;
+        answers = call.answers;
         leaves_table = call.leaves_table;
-        leaves_list = w ∙ rw (← (left-to-write call e).listed);
+        leaves_list = w ∙ rw (e, ← (left-to-write call).listed);
       }

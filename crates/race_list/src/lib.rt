@@ -1,10 +1,11 @@
 // The races of a file's trace, written to a lent list of race records.
-ghost use Rattle.std.specs.Prelude.{map, ◌≡◌, ◌+◌, ◌≤◌, length};
+#![tactic(auto)]
+ghost use Rattle.std.specs.Prelude.{map, ◌≡◌, ◌+◌, ◌≤◌, length, take};
 ghost use Rattle.std.proofs.Math.Seq.{paste};
 ghost use Rattle.trace.specs.Reading.{trace_of};
 ghost use Rattle.lent.specs.Written.{written_over};
 ghost use Rattle.races.specs.Premises.{Writable};
-ghost use Rattle.race_model.specs.RaceList.{pair, races_below};
+ghost use Rattle.race_model.specs.RaceList.{pair, race_list};
 ghost use Rattle.race_list.specs.Listing.{ListCall};
 
 use race_model::Race;
@@ -25,18 +26,11 @@ fn write_row(list: &mut [Race], at: usize, count: usize, lower: u16, row: &[u16;
     }
 }
 
-// Writes the races of the first `rows` operations with later ones to the front of the list, and answers how many there
-// are.
-fn write_races(
-    list: &mut [Race],
-    file: &[u8],
-    table: &[u16],
-    counts: &[u16; 1024],
-    rows: usize,
-) -> usize
-    requires { Writable file.now table.now counts.now rows (length list.old) }
-    ensures { (result ≡ length (races_below (trace_of file.now) rows))
-        × (list.new ≡ written_over (races_below (trace_of file.now) rows) list.old) }
+// Writes the first `count` races to the front of the list: none, or all.
+fn write_races(list: &mut [Race], file: &[u8], table: &[u16], count: usize)
+    requires { Writable file.now table.now count × (count ≤ length list.old) }
+    ensures { list.new
+        ≡ written_over (take count (race_list (trace_of file.now))) list.old }
 {
     let mut cells = [0u32; 2080];
     let mut next = [0u32; 1024];
@@ -45,15 +39,14 @@ fn write_races(
     let mut row = [0u16; 1024];
     let mut a: usize = 0;
     let mut at: usize = 0;
-    while a < rows {
+    while at < count {
         let found = race_rows::next_row(
-            file, table, a, counts, &mut cells, &mut next, &mut kept, &mut seen, &mut row,
+            file, table, a, &mut cells, &mut next, &mut kept, &mut seen, &mut row,
         );
         write_row(list, at, found, a as u16, &row);
         at += found;
         a += 1;
     }
-    at
 }
 
 // Asks the file's questions, 11 and 16, of any bytes, any table and any list; where none refuses, the races, and the
@@ -63,9 +56,8 @@ pub fn race_list(file: &[u8], table: &mut [u16], list: &mut [Race]) -> RacesAnsw
         list.new }
 {
     let room = list.len();
-    let mut counts = [1u16; 1024];
-    let asked = races::fill_and_ask(file, table, room, &mut counts);
-    let rows = races::rows_to_write(asked);
-    let count = write_races(list, file, table, &counts, rows);
-    races::answer_with(asked, count)
+    let answer = races::fill_and_count(file, table, room);
+    let count = races::to_write(answer);
+    write_races(list, file, table, count);
+    answer
 }

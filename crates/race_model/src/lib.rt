@@ -1,7 +1,8 @@
 // A race record; races and their list are in specs/ and proofs/.
+#![tactic(auto)]
 
 // A race record: the lower and the higher operation.
-#[derive(Drop)]
+#[derive(Clone, Copy)]
 pub struct Race {
     pub lower: u16,
     pub higher: u16,

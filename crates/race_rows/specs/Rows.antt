@@ -1,15 +1,14 @@
 -- The arrays that the rows of races are found from, one row after the other.
 -- Follows: document 01, "Race list".
 -- Differs: nowhere. Means: no call's contract speaks of these.
-use Rattle.std.specs.Prelude.{List, [], ◌≡◌, ℕ, ◌+◌, ◌<◌, ◌≤◌, length, get_or}
+use Rattle.std.specs.Prelude.{List, ◌≡◌, ℕ, ◌+◌, ◌<◌, ◌≤◌, length}
 use Rattle.trace.specs.Reading.{trace_of}
-use Rattle.trace.specs.Trace.{Trace, size, worker_of}
+use Rattle.trace.specs.Trace.{Trace, worker_of}
 use Rattle.conflicts.specs.Cells.{CellsHold}
 use Rattle.meetings.specs.Meetings.{Notes}
 use Rattle.table_entries.specs.Entries.{HoldsTable}
 use Rattle.unordered.specs.Beginning.{Zeros}
 use Rattle.unordered.specs.Kept.{HoldsNext, Carried}
-use Rattle.race_model.specs.RaceRows.{race_row}
 use Rattle.race_words.specs.RaceWords.{RowReady}
 
 -- what the search goes by, before row a
@@ -42,8 +41,3 @@ pub record CountsAt (bytes table : List ℕ) (a : ℕ) (cells next kept seen : L
 pub record RowsAt (bytes table : List ℕ) (a : ℕ) (cells next kept seen row : List ℕ) : Type 0 where
   pub counts_at : CountsAt bytes table a cells next kept seen
   pub row_long : length row ≡ 1024
-
--- what stands at an operation tells, where it is 0, that the operation has no race with a later one
-pub record Hints (t : Trace) (counts : List ℕ) : Type 0 where
-  pub long : length counts ≡ 1024
-  pub none : (a : ℕ) → a < size t → get_or counts a 0 ≡ 0 → race_row t a ≡ []

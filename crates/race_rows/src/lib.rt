@@ -1,9 +1,10 @@
 // The races of one operation with all later ones, row by row.
+#![tactic(auto)]
 ghost use Rattle.std.specs.Prelude.{[], ◌≡◌, ◌+◌, ◌<◌, length};
 ghost use Rattle.trace.specs.Reading.{reads, file_reading, trace_of};
 ghost use Rattle.trace.specs.Trace.{size};
 ghost use Rattle.race_model.specs.RaceRows.{race_row, RowHolds};
-ghost use Rattle.race_rows.specs.Rows.{RowOpen, Searching, Begun, CountsAt, RowsAt, Hints};
+ghost use Rattle.race_rows.specs.Rows.{RowOpen, Searching, Begun, CountsAt, RowsAt};
 
 // Reads the file for the rows.
 fn begin(
@@ -153,7 +154,7 @@ fn list_open(
 }
 
 // The same of any operation, in order as for `count_row`; where `some` is 0, a is known to have no race.
-fn list_row(
+pub fn list_row(
     file: &[u8],
     table: &[u16],
     a: usize,
@@ -179,12 +180,11 @@ fn list_row(
     0
 }
 
-// The same, where `counts` tells of each operation what `some` does.
+// The same, of which nothing is known.
 pub fn next_row(
     file: &[u8],
     table: &[u16],
     a: usize,
-    counts: &[u16; 1024],
     cells: &mut [u32; 2080],
     next: &mut [u32; 1024],
     kept: &mut [u32; 1536],
@@ -192,11 +192,10 @@ pub fn next_row(
     row: &mut [u16; 1024],
 ) -> usize
     requires { RowsAt file.now table.now a cells.old next.old kept.old seen.old row.old
-        × (a < size (trace_of file.now))
-        × Hints (trace_of file.now) counts.now }
+        × (a < size (trace_of file.now)) }
     ensures { RowHolds (race_row (trace_of file.now) a) result row.new
         × RowsAt file.now table.now (a + 1) cells.new next.new
         kept.new seen.new row.new }
 {
-    list_row(file, table, a, counts[a], cells, next, kept, seen, row)
+    list_row(file, table, a, 1, cells, next, kept, seen, row)
 }

@@ -1,5 +1,6 @@
 // The races of one operation with 32 others at a time: what is unordered with it and in conflict with it, as sets of
 // bits.
+#![tactic(auto)]
 ghost use Rattle.std.specs.Prelude.{true, ◌≡◌, ◌/◌, ◌<◌, ◌≤◌, length};
 ghost use Rattle.trace.specs.Reading.{reads, file_reading, trace_of};
 ghost use Rattle.meetings.specs.Meetings.{Notes};
@@ -136,7 +137,7 @@ pub fn list_words(
     let mut v = a / 32;
     while 32 * v < n {
         let word = row_word(file, cells, kept, seen, a, w, slot, v);
-        at = word_lists::list(word, 32 * v, at, row);
+        at = words::list(word, 32 * v, at, row);
         v += 1;
     }
     at

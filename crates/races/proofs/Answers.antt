@@ -1,12 +1,13 @@
 -- What the call answers and leaves in lent memory. In order: by the outcome of the questions; as the code comes to it;
--- what is left to be written, and the call's promise; what the answer says.
-use mathlib.Core.List.{List, []}
+-- the races that an answer lists; the call's promise; what the answer says.
+use mathlib.Core.List.{List}
 use mathlib.Core.Logic.Iff
 use mathlib.Core.Logic.{inl, inr, ◌↔◌}
-use mathlib.Core.Path.{◌≡◌, refl, sym, ap, ◌∙◌}
+use mathlib.Core.Path.{◌≡◌, refl, sym, ◌∙◌}
 use native.Mathlib.Omega.{arith}
 use Prim.Native.Nat.{ℕ, ◌<◌, ◌≤◌}
-use lib.ListN.{length}
+use lib.ListN.{length, take}
+use lib.Seq.{take-length}
 use borrow.Author.Tests.{le-leb, lt-leb}
 use Rattle.basics.proofs.Booleans.{zero_one, less?}
 use Rattle.trace.specs.Premises.{HoldsTrace}
@@ -17,23 +18,19 @@ use Rattle.trace.proofs.Outcomes.{TellsRefusals, outcome-refused, outcome-passes
 use Rattle.accept.specs.Acceptance.{AcceptedTrace}
 use Rattle.accept.proofs.Questions.{accepted-trace, accepted-same}
 use Rattle.order_table.specs.Refusals.{AcceptedTable}
-use Rattle.order_table.specs.Table.{answer_of as table-answer, table_answer, table_after}
-use Rattle.order_table.specs.declared.TableAnswer.{TableAnswer}
+use Rattle.order_table.specs.Table.{table_answer, table_after}
 use Rattle.order_table.specs.declared.TableAnswer.TheVariants as table
 use Rattle.order_table.proofs.Answers.{table-refused, table_filled}
 use Rattle.order_table.proofs.Entries.{after-length, after-entry}
 use Rattle.order_table.proofs.Questions.{table-comes-out}
 use Rattle.table_entries.specs.Entries.{HoldsTable}
-use Rattle.race_model.specs.RaceList.{races_below, race_list, race_count}
-use Rattle.race_model.proofs.RowLists.{below-start, below_all}
-use Rattle.race_rows.specs.Rows.{Hints}
-use Rattle.races.specs.Premises.{too_many, asked_races, rows_of, AskCall, Writable, RowsListed, answer_with}
-use Rattle.races.specs.Races.{lower_after, higher_after, RacesCall}
-use Rattle.races.specs.Races.{races_reading, answer_of, races_answer, listed_by, races_listed, shorter}
+use Rattle.race_model.specs.RaceList.{race_list, race_count}
+use Rattle.races.specs.Premises.{Writable, AllWritten, too_many, ListsCall}
+use Rattle.races.specs.Races.{lower_after, higher_after, CountCall, RacesCall}
+use Rattle.races.specs.Races.{races_reading, answer_of, races_answer, listed_by, races_listed, to_write, shorter}
 use Rattle.races.specs.Refusals.{AcceptedRaces, RefusedRaces}
 use Rattle.races.specs.declared.RacesAnswer.TheVariants.{Listed, Refused}
 use Rattle.races.specs.declared.RacesAnswer.{RacesAnswer}
-use Rattle.races.proofs.PairWriting.{table-few}
 use Rattle.races.proofs.Questions.{races-comes-out, refused-short}
 
 -- ---- by the outcome of the questions
@@ -46,10 +43,6 @@ module _ (bytes : List ℕ) (numbers room : ℕ) {r : Reading} (e : races_readin
   pub races_listed-by : races_listed bytes numbers room ≡ listed_by r
   unfolding races_listed
   races_listed-by = rw e
-
-  pub asked_by : asked_races bytes numbers room ≡ table-answer r
-  unfolding asked_races
-  asked_by = rw e
 
 -- ---- as the code comes to it
 
@@ -70,6 +63,94 @@ module _ (bytes lent : List ℕ) {now : List ℕ} (e : now ≡ table_after bytes
       let (filled, holds) = table_filled bytes lent p n a in
       (holds_after filled, holds)
 
+module _ {bytes table : List ℕ} {p n : ℕ} (h : HoldsTable bytes table) (t : HoldsTrace bytes p n) (room : ℕ)
+    {count : ℕ} (e : count ≡ race_count (trace_of bytes)) where
+  filled : AcceptedTable bytes (length table) (trace_of bytes)
+  filled = record { accepted = h.accepted; table_holds = h.room }
+
+  room-passes : count ≤ room → races_reading bytes (length table) room ≡ reads (trace_of bytes)
+  room-passes l =
+      ((races-comes-out bytes (length table) room).passes (trace_of bytes)).1
+      (record { filled = filled; list_holds = omega (arith, e) })
+
+  room-refuses : room < count → races_reading bytes (length table) room ≡ refused 16 count
+  room-refuses l = ((races-comes-out bytes (length table) room).refuses 16 count).1 short
+    where
+      short : RefusedRaces bytes (length table) room 16 count
+      short = by_this (trace_of bytes) filled (omega (arith, e)) refl e
+
+  pub answer-listed : count ≤ room → Listed p n count ≡ races_answer bytes (length table) room
+  answer-listed l = rw (← t.workers, ← t.count, e) (sym (answer-by bytes (length table) room (room-passes l)))
+
+  pub answer-short : room < count → Refused 16 count ≡ races_answer bytes (length table) room
+  answer-short l = sym (answer-by bytes (length table) room (room-refuses l))
+
+-- where filling the table refuses
+table-refusal : (bytes lent : List ℕ) (room : ℕ) {q k : ℕ} → table_answer bytes lent ≡ table.Refused q k
+    → races_reading bytes (length lent) room ≡ refused q k
+table-refusal bytes lent room {q} {k} a =
+    let no = ((table-comes-out bytes (length lent)).refuses q k).0 ((table-refused bytes lent q k).0 a) in
+    ((races-comes-out bytes (length lent) room).refuses q k).1 (by_earlier no)
+
+module _ (bytes lent : List ℕ) {now : List ℕ} (room : ℕ) (e : now ≡ table_after bytes lent) where
+  pub counts-filled : {answer : RacesAnswer} → answer ≡ races_answer bytes (length now) room
+      → CountCall bytes lent room answer now
+  counts-filled a = record { answers = rw (e, after-length bytes lent) at a; leaves_table = e }
+
+  pub counts-refused : {q k : ℕ} → table_answer bytes lent ≡ table.Refused q k
+      → CountCall bytes lent room (Refused q k) now
+  counts-refused a =
+      record {
+        answers = sym (answer-by bytes (length lent) room (table-refusal bytes lent room a));
+        leaves_table = e;
+      }
+
+-- ---- the races that an answer lists
+
+-- what is left to be written: it fits, it can be written, and it is the races that the call lists
+pub record LeftToWrite (bytes table : List ℕ) (numbers room count : ℕ) : Type 0 where
+  pub writable : Writable bytes table count
+  pub fits : count ≤ room
+  pub listed : races_listed bytes numbers room ≡ take count (race_list (trace_of bytes))
+
+module _ {bytes lent now : List ℕ} {room : ℕ} {answer : RacesAnswer} (c : CountCall bytes lent room answer now) where
+  pub counts-length : length now ≡ length lent
+  counts-length = rw c.leaves-table (after-length bytes lent)
+
+  pub left-to-write : LeftToWrite bytes now (length lent) room (to_write answer)
+  left-to-write = go (races_reading bytes (length lent) room) refl
+    where
+      go : (r : Reading) → races_reading bytes (length lent) room ≡ r
+          → LeftToWrite bytes now (length lent) room (to_write answer)
+      go (refused q k) e =
+          rw (c.answers, answer-by bytes (length lent) room e)
+          (record {
+            writable = record { holds = λ l. absurd (omega (arith, l)); all = λ l. absurd (omega (arith, l)) };
+            fits = omega arith;
+            listed = races_listed-by bytes (length lent) room e;
+          })
+      go (reads t) e =
+          let passed = ((races-comes-out bytes (length lent) room).passes t).0 e in
+          let same = accepted-trace passed.filled.accepted in
+          rw (c.answers, answer-by bytes (length lent) room e)
+          (record {
+            writable = record {
+              holds = λ l. holds_after bytes lent c.leaves-table passed.filled;
+              all = λ l. rw same;
+            };
+            fits = passed.list_holds;
+            listed = races_listed-by bytes (length lent) room e ∙ rw same (sym (take-length (race_list t)));
+          })
+
+-- ---- the call's promise
+
+-- the shorter of two lengths is at most each of them
+pub shorter-fits : (x y : ℕ) → (shorter x y ≤ x) × (shorter x y ≤ y)
+shorter-fits x y = elim (less? y x) [
+  | inl l ↦ rw (lt-leb x y l) (omega arith, omega arith)
+  | inr l ↦ rw (le-leb x y l) (omega arith, omega arith)
+]
+
 -- more than there is room for, or not
 many-none : (count room : ℕ) → too_many count room < 1 → count ≤ room
 many-none count room l = elim (less? room count) [
@@ -83,129 +164,66 @@ many-some count room l = elim (less? room count) [
   | inr i ↦ absurd (omega (arith, rw (le-leb count room i) at l))
 ]
 
-module _ {bytes table : List ℕ} {p n : ℕ} (h : HoldsTable bytes table) (t : HoldsTrace bytes p n) (room : ℕ)
-    {more : ℕ} (e : more ≡ too_many (race_count (trace_of bytes)) room) where
-  abbrev count : ℕ
-  count = race_count (trace_of bytes)
+module _ {bytes table : List ℕ} {p n : ℕ} (h : HoldsTable bytes table) (t : HoldsTrace bytes p n)
+    (lower higher : List ℕ) {room : ℕ} (i : room ≡ shorter (length lower) (length higher)) {more : ℕ}
+    (e : more ≡ too_many (race_count (trace_of bytes)) room) where
+  -- there is room for all
+  pub lists-fit : more < 1 → (race_count (trace_of bytes) ≤ length lower) × (race_count (trace_of bytes) ≤ length higher)
+  lists-fit l =
+      let fits = many-none (race_count (trace_of bytes)) room (rw e at l) in
+      let short = shorter-fits (length lower) (length higher) in
+      (omega (arith, fits, i, short.0), omega (arith, fits, i, short.1))
 
-  filled : AcceptedTable bytes (length table) (trace_of bytes)
-  filled = record { accepted = h.accepted; table_holds = h.room }
-
-  pub asked-fits : more < 1 → table.Filled p n ≡ asked_races bytes (length table) room
-  asked-fits l = rw (← t.workers, ← t.count) (sym (asked_by bytes (length table) room passes))
-    where
-      passes : races_reading bytes (length table) room ≡ reads (trace_of bytes)
-      passes =
-          ((races-comes-out bytes (length table) room).passes (trace_of bytes)).1
-          (record { filled = filled; list_holds = many-none count room (rw e at l) })
-
-  pub asked-short : 0 < more → table.Refused 16 more ≡ asked_races bytes (length table) room
-  asked-short l = sym (asked_by bytes (length table) room refuses)
-    where
-      short : RefusedRaces bytes (length table) room 16 more
-      short = let (i, same) = many-some count room (rw e at l) in by_this (trace_of bytes) filled i refl (e ∙ same)
-
-      refuses : races_reading bytes (length table) room ≡ refused 16 more
-      refuses = ((races-comes-out bytes (length table) room).refuses 16 more).1 short
-
--- where filling the table refuses
-table-refusal : (bytes lent : List ℕ) (room : ℕ) {q k : ℕ} → table_answer bytes lent ≡ table.Refused q k
-    → races_reading bytes (length lent) room ≡ refused q k
-table-refusal bytes lent room {q} {k} a =
-    let no = ((table-comes-out bytes (length lent)).refuses q k).0 ((table-refused bytes lent q k).0 a) in
-    ((races-comes-out bytes (length lent) room).refuses q k).1 (by_earlier no)
-
-module _ (bytes lent : List ℕ) {now : List ℕ} (room : ℕ) (e : now ≡ table_after bytes lent) where
-  pub ask-filled : {asked : TableAnswer} {counts : List ℕ}
-      → (asked ≡ asked_races bytes (length now) room) × Hints (trace_of bytes) counts
-      → AskCall bytes lent room asked now counts
-  ask-filled (a, h) =
-      record { asks = rw (e, after-length bytes lent) at a; leaves_table = e; hints = λ l. h }
-
-  pub ask-refused : {q k : ℕ} (counts : List ℕ) → table_answer bytes lent ≡ table.Refused q k
-      → AskCall bytes lent room (table.Refused q k) now counts
-  ask-refused counts a =
+  pub lists-all : {count : ℕ} {lower-now higher-now : List ℕ} → more < 1
+      → AllWritten (trace_of bytes) count lower lower-now higher higher-now
+      → ListsCall bytes (length table) lower higher (Listed p n count) lower-now higher-now
+  lists-all {count} l w =
+      let fits : count ≤ room = omega (arith, w.counts, many-none (race_count (trace_of bytes)) room (rw e at l)) in
+      let listed = races_listed-by bytes (length table) room (room-passes h t room w.counts fits) in
       record {
-        asks = sym (asked_by bytes (length lent) room (table-refusal bytes lent room a));
-        leaves_table = e;
-        hints = λ l. absurd (omega (arith, l));
+        answers = rw (← i) (answer-listed h t room w.counts fits);
+        lists_lower = rw (← i, listed) w.all_lower;
+        lists_higher = rw (← i, listed) w.all_higher;
       }
 
--- ---- what is left to be written, and the call's promise
+  pub lists-short : 0 < more → ListsCall bytes (length table) lower higher (Refused 16 more) lower higher
+  lists-short l =
+      let (short, same) = many-some (race_count (trace_of bytes)) room (rw e at l) in
+      let none = races_listed-by bytes (length table) room (room-refuses h t room refl short) in
+      record {
+        answers = rw (← i, e, same) (answer-short h t room refl short);
+        lists_lower = rw (← i, none);
+        lists_higher = rw (← i, none);
+      }
 
--- it can be written; it is the races that the call lists; and the answer is that of the call
-pub record LeftToWrite (bytes table counts : List ℕ) (numbers room : ℕ) (asked : TableAnswer) (rows : ℕ) : Type 0 where
-  pub writable : Writable bytes table counts rows room
-  pub listed : races_listed bytes numbers room ≡ races_below (trace_of bytes) rows
-  pub few : length (races_below (trace_of bytes) rows) ≤ 1048576
-  pub answers : answer_with asked (length (races_below (trace_of bytes) rows)) ≡ races_answer bytes numbers room
-
-module _ {bytes lent now counts : List ℕ} {room : ℕ} {asked : TableAnswer}
-    (c : AskCall bytes lent room asked now counts) where
-  pub asked-length : length now ≡ length lent
-  asked-length = rw c.leaves-table (after-length bytes lent)
-
-  pub left-to-write : {rows : ℕ} → rows ≡ rows_of asked
-      → LeftToWrite bytes now counts (length lent) room asked rows
-  left-to-write {rows} i = go (races_reading bytes (length lent) room) refl
-    where
-      go : (r : Reading) → races_reading bytes (length lent) room ≡ r
-          → LeftToWrite bytes now counts (length lent) room asked rows
-      go (refused q k) e =
-          let refusal : asked ≡ table.Refused q k = c.asks ∙ asked_by bytes (length lent) room e in
-          let none : rows ≡ 0 = i ∙ ap rows_of refusal in
-          let empty : races_below (trace_of bytes) rows ≡ [] = rw none (below-start (trace_of bytes)) in
-          record {
-            writable = record {
-              below = omega (arith, none);
-              fits = rw empty (omega arith);
-              holds = λ l. absurd (omega (arith, l, none));
-              hints = λ l. absurd (omega (arith, l, none));
-            };
-            listed = rw empty (races_listed-by bytes (length lent) room e);
-            few = rw empty (omega arith);
-            answers = rw refusal (sym (answer-by bytes (length lent) room e));
-          }
-      go (reads t) e =
-          let passed = ((races-comes-out bytes (length lent) room).passes t).0 e in
-          let same : trace_of bytes ≡ t = accepted-trace passed.filled.accepted in
-          let reading : asked ≡ table.Filled t.workers (size t) = c.asks ∙ asked_by bytes (length lent) room e in
-          let whole : rows ≡ size t = i ∙ ap rows_of reading in
-          let all : races_below (trace_of bytes) rows ≡ race_list t = rw (whole, same) (below_all t) in
-          let holds = holds_after bytes lent c.leaves-table passed.filled in
-          record {
-            writable = record {
-              below = rw same (omega (arith, whole));
-              fits = rw all passed.list_holds;
-              holds = λ l. holds;
-              hints = λ l. c.hints (omega (arith, i));
-            };
-            listed = rw all (races_listed-by bytes (length lent) room e);
-            few = rw all (rw same at (table-few holds));
-            answers = rw (reading, all) (sym (answer-by bytes (length lent) room e));
-          }
-
-  -- the races are written to two lists
-  pub call_kept : {rows count : ℕ} {lower lower-now higher higher-now : List ℕ} → rows ≡ rows_of asked
-      → room ≡ shorter (length lower) (length higher)
-      → RowsListed (trace_of bytes) rows count lower lower-now higher higher-now
-      → RacesCall bytes lent lower higher (answer_with asked count) now lower-now higher-now
+module _ (bytes lent : List ℕ) {now : List ℕ} (lower higher : List ℕ) (e : now ≡ table_after bytes lent) where
+  pub call-filled : {answer : RacesAnswer} {lower-now higher-now : List ℕ}
+      → ListsCall bytes (length now) lower higher answer lower-now higher-now
+      → RacesCall bytes lent lower higher answer now lower-now higher-now
   unfolding lower_after higher_after
-  call_kept i e w =
-      let left = left-to-write i in
+  call-filled l =
+      let same : length now ≡ length lent = rw e (after-length bytes lent) in
       record {
-        answers = rw (w.counts, ← e) left.answers;
-        leaves_table = c.leaves-table;
-        leaves_lower = rw (← e, left.listed) w.all_lower;
-        leaves_higher = rw (← e, left.listed) w.all_higher;
+        answers = rw same at l.answers;
+        leaves_table = e;
+        leaves_lower = rw same at l.lists_lower;
+        leaves_higher = rw same at l.lists_higher;
       }
 
--- the shorter of two lengths is at most each of them
-pub shorter-fits : (x y : ℕ) → (shorter x y ≤ x) × (shorter x y ≤ y)
-shorter-fits x y = elim (less? y x) [
-  | inl l ↦ rw (lt-leb x y l) (omega arith, omega arith)
-  | inr l ↦ rw (le-leb x y l) (omega arith, omega arith)
-]
+  pub call-refused : {q k : ℕ} → table_answer bytes lent ≡ table.Refused q k
+      → RacesCall bytes lent lower higher (Refused q k) now lower higher
+  unfolding lower_after higher_after
+  call-refused {q} {k} a =
+      let none = races_listed-by bytes (length lent) (shorter (length lower) (length higher)) refusal in
+      record {
+        answers = sym (answer-by bytes (length lent) (shorter (length lower) (length higher)) refusal);
+        leaves_table = e;
+        leaves_lower = rw none;
+        leaves_higher = rw none;
+      }
+    where
+      refusal : races_reading bytes (length lent) (shorter (length lower) (length higher)) ≡ refused q k
+      refusal = table-refusal bytes lent (shorter (length lower) (length higher)) a
 
 -- ---- what the answer says
 

@@ -19,9 +19,9 @@ use Rattle.table_entries.proofs.TableEntries.{table-short}
 use Rattle.race_model.specs.RaceList.{is_race, pair, races_below, race_list, race_count}
 use Rattle.race_model.specs.RaceRows.{race_row, RowHolds}
 use Rattle.race_model.proofs.RaceLists.{list-few}
-use Rattle.race_model.proofs.RowLists.{row_count, below-start, below_next, below-count, below_all, row_room}
-use Rattle.race_rows.specs.Rows.{Hints}
-use Rattle.races.specs.Premises.{Writable, RowsListed}
+use Rattle.race_model.proofs.RowLists.{row_count, below-start, below_next, below-count, below-few}
+use Rattle.race_model.proofs.RowLists.{below_all}
+use Rattle.races.specs.Premises.{Hints, AllWritten}
 use Rattle.races.specs.Races.{lowers, highers}
 
 -- ---- counting
@@ -93,14 +93,14 @@ hints-none t s =
 
 -- ---- writing
 
--- of `rows` rows, those below a are written to the two lists
-pub record RowsWritten (t : Trace) (rows a at : ℕ) (lower lower-now higher higher-now : List ℕ) : Type 0 where
-  pub below : a ≤ rows
+-- the races whose lower operation is below a are written to the two lists
+pub record RowsWritten (t : Trace) (a at : ℕ) (lower lower-now higher higher-now : List ℕ) : Type 0 where
+  pub below : a ≤ size t
   pub low : Written at (lowers (races_below t a)) lower lower-now
   pub high : Written at (highers (races_below t a)) higher higher-now
 
-pub rows_none : (t : Trace) (rows : ℕ) (lower higher : List ℕ) → RowsWritten t rows 0 0 lower lower higher higher
-rows_none t rows lower higher =
+pub rows_none : (t : Trace) (lower higher : List ℕ) → RowsWritten t 0 0 lower lower higher higher
+rows_none t lower higher =
     record {
       below = omega arith;
       low = rw (below-start t) (written_none lower);
@@ -123,19 +123,19 @@ pub pasted-written : {A : Type 0} {at count : ℕ} {old now before : List A} (ne
 pasted-written {at = at} {count} {old} {now} new part w e f l =
     rw (f, append_assoc, ← drop-drop count at now) (written-part w part e l)
 
-module _ {t : Trace} {rows a at : ℕ} {lower lower-now higher higher-now : List ℕ}
-    (w : RowsWritten t rows a at lower lower-now higher higher-now) where
+module _ {t : Trace} {a at : ℕ} {lower lower-now higher higher-now : List ℕ}
+    (w : RowsWritten t a at lower lower-now higher higher-now) where
   rows_at : at ≡ length (races_below t a)
   rows_at = sym w.low.place ∙ length-map (races_below t a) (λ (r : Race). r.lower)
 
   -- a row more has room
-  module _ {more : ℕ} {row_now : List ℕ} (l : a < rows) (r : RowHolds (race_row t a) more row_now) where
-    pub rows-room : at + more ≤ length (races_below t rows)
-    rows-room = row_room t rows_at l r
+  module _ {more : ℕ} {row_now : List ℕ} (l : a < size t) (r : RowHolds (race_row t a) more row_now) where
+    pub rows-room : at + more ≤ race_count t
+    rows-room = omega (arith, rows_at, below-count t a, row_count r, below-few t (suc a) (omega arith))
 
-    pub rows_more : {lower-next higher-next : List ℕ} → at + more ≤ length lower → at + more ≤ length higher
+    pub rows_more : {lower-next higher-next : List ℕ} → race_count t ≤ length lower → race_count t ≤ length higher
         → lower-next ≡ paste lower-now at (replicate more a) more → higher-next ≡ paste higher-now at row_now more
-        → RowsWritten t rows (a + 1) (at + more) lower lower-next higher higher-next
+        → RowsWritten t (a + 1) (at + more) lower lower-next higher higher-next
     rows_more i j e f =
         record {
           below = omega arith;
@@ -155,18 +155,20 @@ module _ {t : Trace} {rows a at : ℕ} {lower lower-now higher higher-now : List
         low =
             let long = length-replicate more a in
             pasted-written (replicate more a) (replicate more a) w.low long
-            (take_all more (replicate more a) (omega (arith, long))) i
+            (take_all more (replicate more a) (omega (arith, long)))
+            (omega (arith, rows-room))
 
         high : Written (at + more) (highers (races_below t a) ++ race_row t a) higher (paste higher-now at row_now more)
-        high = pasted-written row_now (race_row t a) w.high count r.front j
+        high = pasted-written row_now (race_row t a) w.high count r.front (omega (arith, rows-room))
 
   -- ---- the end
 
-  pub rows_all : rows ≤ a → RowsListed t rows at lower lower-now higher higher-now
+  pub rows_all : size t ≤ a → AllWritten t at lower lower-now higher higher-now
   rows_all l =
-      let e : a ≡ rows = omega (arith, w.below) in
+      let last : a ≡ size t = omega (arith, w.below) in
+      let e : races_below t a ≡ race_list t = rw last (below_all t) in
       record {
-        counts = rw e at rows_at;
+        counts = rows_at ∙ ap length e;
         all_lower = rw e at w.low.whole;
         all_higher = rw e at w.high.whole;
       }

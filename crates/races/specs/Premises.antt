@@ -1,60 +1,41 @@
 -- What the inner functions know, and what they do.
 -- Follows: document 01, "Race list".
 -- Differs: nowhere. Means: the call's contract speaks of none of these.
-use Rattle.std.specs.Prelude.{cond, List, ◌≡◌, ℕ, ◌≤◌, leb, length}
+use Rattle.std.specs.Prelude.{cond, List, [], ◌≡◌, ℕ, ◌<◌, ◌≤◌, leb, length, get_or}
 use Rattle.trace.specs.Reading.{trace_of}
 use Rattle.trace.specs.Trace.{Trace, size}
 use Rattle.lent.specs.Written.{written_over}
-use Rattle.order_table.specs.Table.{answer_of, table_after}
-use Rattle.order_table.specs.declared.TableAnswer.{TableAnswer}
-use Rattle.order_table.specs.declared.TableAnswer.TheVariants as table
 use Rattle.table_entries.specs.Entries.{HoldsTable}
-use Rattle.race_model.specs.RaceList.{races_below}
-use Rattle.race_rows.specs.Rows.{Hints}
-use Rattle.races.specs.Races.{races_reading, lowers, highers}
+use Rattle.race_model.specs.RaceList.{race_list, race_count}
+use Rattle.race_model.specs.RaceRows.{race_row}
+use Rattle.races.specs.Races.{races_answer, races_listed, lowers, highers, shorter}
 use Rattle.races.specs.declared.RacesAnswer.{RacesAnswer}
-use Rattle.races.specs.declared.RacesAnswer.TheVariants.{Listed, Refused}
 
--- ---- asking
+-- `count` races can be written: none, or all, and then there is a table to find them in
+pub record Writable (bytes table : List ℕ) (count : ℕ) : Type 0 where
+  pub holds : 1 ≤ count → HoldsTable bytes table
+  pub all : 1 ≤ count → count ≡ race_count (trace_of bytes)
+
+-- what stands at an operation tells, where it is 0, that the operation has no race with a later one
+pub record Hints (t : Trace) (counts : List ℕ) : Type 0 where
+  pub long : length counts ≡ 1024
+  pub none : (a : ℕ) → a < size t → get_or counts a 0 ≡ 0 → race_row t a ≡ []
+
+-- all races are written to the two lists, and `count` is their number
+pub record AllWritten (t : Trace) (count : ℕ) (lower lower-now higher higher-now : List ℕ) : Type 0 where
+  pub counts : count ≡ race_count t
+  pub all_lower : lower-now ≡ written_over (lowers (race_list t)) lower
+  pub all_higher : higher-now ≡ written_over (highers (race_list t)) higher
 
 -- a number where it is above a bound; 0 otherwise
 abbrev pub too_many : ℕ → ℕ → ℕ
 too_many count room = cond (leb count room) 0 count
 
--- how the questions come out: the refusal, or the worker count and the operation count
-unfoldable pub asked_races : List ℕ → ℕ → ℕ → TableAnswer
-asked_races bytes numbers room = answer_of (races_reading bytes numbers room)
-
--- how many rows are to be written then: all, or none
-abbrev pub rows_of : TableAnswer → ℕ
-rows_of (table.Refused q k) = 0
-rows_of (table.Filled p n) = n
-
--- the asking and the filling; where rows are to be written, `counts` may tell which of them are empty
-pub record AskCall (bytes lent : List ℕ) (room : ℕ) (asked : TableAnswer) (now counts : List ℕ) : Type 0 where
-  pub asks : asked ≡ asked_races bytes (length lent) room
-  pub leaves_table : now ≡ table_after bytes lent
-  pub hints : 1 ≤ rows_of asked → Hints (trace_of bytes) counts
-
--- ---- writing
-
--- the first `rows` rows can be written to a list of `room` records: there is room, and where there are rows, there is a
--- table to find the races in
-pub record Writable (bytes table counts : List ℕ) (rows room : ℕ) : Type 0 where
-  pub below : rows ≤ size (trace_of bytes)
-  pub fits : length (races_below (trace_of bytes) rows) ≤ room
-  pub holds : 1 ≤ rows → HoldsTable bytes table
-  pub hints : 1 ≤ rows → Hints (trace_of bytes) counts
-
--- they are written to two lists, and `count` is the number of their races
-pub record RowsListed (t : Trace) (rows count : ℕ) (lower lower-now higher higher-now : List ℕ) : Type 0 where
-  pub counts : count ≡ length (races_below t rows)
-  pub all_lower : lower-now ≡ written_over (lowers (races_below t rows)) lower
-  pub all_higher : higher-now ≡ written_over (highers (races_below t rows)) higher
-
--- ---- answering
-
--- the answer, where `count` races are written
-abbrev pub answer_with : TableAnswer → ℕ → RacesAnswer
-answer_with (table.Refused q k) count = Refused q k
-answer_with (table.Filled p n) count = Listed p n count
+-- the listing, where the table, of `numbers` numbers, is filled
+pub record ListsCall (bytes : List ℕ) (numbers : ℕ) (lower higher : List ℕ) (answer : RacesAnswer)
+    (lower-now higher-now : List ℕ) : Type 0 where
+  pub answers : answer ≡ races_answer bytes numbers (shorter (length lower) (length higher))
+  pub lists_lower : lower-now
+      ≡ written_over (lowers (races_listed bytes numbers (shorter (length lower) (length higher)))) lower
+  pub lists_higher : higher-now
+      ≡ written_over (highers (races_listed bytes numbers (shorter (length lower) (length higher)))) higher

@@ -1,5 +1,6 @@
 // Reading a trace file: the questions of its header and of its records. Only `read` is called from other crates; it
 // requires nothing.
+#![tactic(auto)]
 ghost use Rattle.std.specs.Prelude.{List, ◌≡◌, ◌+◌, ◌≤◌, eqb, length, drop};
 ghost use Rattle.trace.specs.declared.Operation.{Operation};
 ghost use Rattle.trace.specs.Form.{base, record_size};
@@ -12,7 +13,7 @@ ghost use Rattle.reader.specs.Premises.{HoldsHeader};
 use trace::{MARK, Operation, RECORD_SIZE};
 
 // The worker count and the operation count of a file that reads as a trace, or the refusal.
-#[derive(Drop)]
+#[derive(Clone, Copy)]
 pub enum ReadAnswer {
     Read { workers: u8, operations: u32 },
     Refused { number: u8, place: u32 },

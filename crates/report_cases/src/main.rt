@@ -1,4 +1,5 @@
 // Prints the report of each file that the arguments name, under its name.
+#![tactic(auto)]
 use libc::STDOUT_FILENO;
 
 // The report of argument i.

@@ -1,5 +1,6 @@
 // Printing the report of what a descriptor gives. The report itself is made by `report_text`; here is what the system
 // does for it.
+#![tactic(auto)]
 ghost use Rattle.std.specs.Prelude.{◌≡◌};
 ghost use Rattle.report_text.specs.ReportText.{report_text};
 

@@ -1,4 +1,5 @@
 // Writing a row of the order table to its part.
+#![tactic(auto)]
 ghost use Rattle.std.specs.Prelude.{◌≡◌, ◌+◌, ◌<◌, ◌≤◌, length, set, take, drop};
 ghost use Rattle.std.proofs.Math.Seq.{paste};
 

@@ -27,6 +27,7 @@ module _ {R : Rule} (mono : Monotone R) where
       add n = record { below = a.below; new = n; allowed = mono.keeps x sub a.allowed }
 
   exchange-steps : {d e s : List ℕ} → d ⊆ e → Steps R d s → {y : ℕ} → y ∈ s → y ∉ e → Added R e s
+  exchange-steps {e = e} sub (stop {d = d}) {y = y} m n = elim m [ ]
   exchange-steps {e = e} sub (step {s = s} {x = x} a p) {y} m n =
       go (addable-more sub a) m (λ q k. exchange-steps (⊆-cons sub q) p k n)
     where

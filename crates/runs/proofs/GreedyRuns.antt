@@ -44,6 +44,7 @@ first_passes (found h) = h
 first_passes (skip n f) = first_passes f
 
 pub first-missing : {p : ℕ → Bool} {l : List ℕ} → First p l none → (x : ℕ) → x ∈ l → T (p x) → ⊥
+first-missing {p = p} missing x x11 h = elim x11 [ ]
 first-missing {p} (skip {x = y} n f) x (Memᴰ.head e) h = T_not (p y) n (rw e at h)
 first-missing (skip n f) x (Memᴰ.tail m) h = first-missing f x m h
 

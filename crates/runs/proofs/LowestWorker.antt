@@ -26,6 +26,7 @@ use Rattle.runs.proofs.CanonicalOrder.{ahead-worker}
 -- the first that passes in an ascending list is of the lowest worker of those that pass
 first-lowest : {worker : ℕ → ℕ} {p : ℕ → Bool} {l : List ℕ} {x : ℕ} → Ascending worker l → First p l (some x)
     → (y : ℕ) → y ∈ l → T (p y) → worker x ≤ worker y
+first-lowest {worker = worker} {p = p} Rattle.runs.specs.Workers.up_nil x10 y _ k = elim x10 [ ]
 first-lowest {worker} (up_cons up a) (found {x = z} h) y (Memᴰ.head e) k = rw e (le_refl (worker z))
 first-lowest (up_cons up a) (found h) y (Memᴰ.tail m) k = ahead-worker (up y m)
 first-lowest {p = p} (up_cons up a) (skip {x = z} n f) y (Memᴰ.head e) k = absurd (T_not (p z) n (rw e at k))

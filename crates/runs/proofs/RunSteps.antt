@@ -36,10 +36,12 @@ module _ {R : Rule} where
   steps-head (step a p) = a
 
   pub steps-new : {d s : List ℕ} → Steps R d s → {x : ℕ} → x ∈ s → x ∉ d
+  steps-new (stop {d = d}) x11 m = elim x11 [ ]
   steps-new (step a p) (Memᴰ.head e) m = a.new (rw e at m)
   steps-new (step a p) (Memᴰ.tail q) m = steps-new p q (there m)
 
   pub steps-below : {d s : List ℕ} → Steps R d s → {x : ℕ} → x ∈ s → x < R.size
+  steps-below (stop {d = d}) x8 = elim x8 [ ]
   steps-below (step a p) (Memᴰ.head e) = rw e a.below
   steps-below (step a p) (Memᴰ.tail q) = steps-below p q
 

@@ -1,1 +1,2 @@
 // No code: the theory of runs, in specs/ and proofs/.
+#![tactic(auto)]

@@ -1,4 +1,5 @@
 // What may follow what in a run of a trace of up to eight operations, by document 01's definition of a run.
+#![tactic(auto)]
 ghost use Rattle.std.specs.Prelude.{◌≤◌};
 
 // A set of operations has a bit for each: whether x is in it.
@@ -12,7 +13,7 @@ pub fn with(set: u8, x: usize) -> u8 {
 
 // What may follow what. Operation x may follow when all operations of the set all[x] are done, and one of each of the
 // sets one_of[8 x + j], for j below sets[x]. `known` says that each operation's rules are among those below.
-#[derive(Drop)]
+#[derive(Clone, Copy)]
 pub struct Rules {
     pub count: usize,
     pub known: bool,

@@ -1,1 +1,2 @@
 // No code: the starred examples of document 01.
+#![tactic(auto)]

@@ -1,1 +1,2 @@
 // No code: what the state of a walk shows, in specs/ and proofs/.
+#![tactic(auto)]

@@ -1,11 +1,12 @@
 // Reading a descriptor up to its end, and writing bytes to one. A call that a signal interrupts is made again, and one
 // that fails is told from the end of the input. No contract can say which bytes the system moves.
+#![tactic(auto)]
 ghost use Rattle.std.specs.Prelude.{◌≡◌, ◌≤◌, length};
 ghost use Rattle.streams.specs.Streams.{AnswersBehind, step_after, StepWithin, ReadBehind};
 
 // What reading gave: how many bytes were read, and whether that is all that was to be read, up to the input's end or as
 // many as there was room for. It is not where a read failed.
-#[derive(Drop)]
+#[derive(Clone, Copy)]
 pub struct Input {
     pub count: usize,
     pub whole: bool,
@@ -13,7 +14,7 @@ pub struct Input {
 
 // What comes after one call of the system: one more call, behind the first `count` bytes; or none, and whether the
 // `count` bytes that are moved are all that were to be moved.
-#[derive(Drop)]
+#[derive(Clone, Copy)]
 enum Step {
     Again { count: usize },
     Done { count: usize, whole: bool },

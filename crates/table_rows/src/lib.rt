@@ -1,4 +1,5 @@
 // Writing the rows of the order table of an accepted file.
+#![tactic(auto)]
 ghost use Rattle.std.specs.Prelude.{◌≡◌, ℕ, ◌<◌, ◌≤◌, length, set, take};
 ghost use Rattle.trace.specs.Reading.{trace_of};
 ghost use Rattle.walk.specs.Going.{Sized, Walked};
@@ -42,7 +43,7 @@ fn put_rows(
 }
 
 // Which entry of a worker's list is next, how many of its operations are done, and whom the last of them has freed.
-#[derive(Drop)]
+#[derive(Clone, Copy)]
 struct Passed {
     at: usize,
     to: usize,

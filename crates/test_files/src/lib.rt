@@ -1,4 +1,5 @@
 // How the bytes of a trace file lie, and writing them for tests.
+#![tactic(auto)]
 ghost use Rattle.std.specs.Prelude.{◌≤◌};
 
 // The kinds of operations.

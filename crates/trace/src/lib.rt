@@ -1,6 +1,7 @@
 // The trace file: its mark, its record size, and the operations of a file that reads as a trace.
 // The functions with a `requires` are for the crates above: the reader, which asks a file's questions of its header and
 // its records, and the crates that have had a file read before.
+#![tactic(auto)]
 ghost use Rattle.std.specs.Prelude.{◌≡◌, ◌+◌, ◌≤◌, ◌<◌, length, drop};
 ghost use Rattle.trace.specs.Form.{base, record_size, start};
 ghost use Rattle.trace.specs.LittleEndian.{value};
@@ -15,7 +16,7 @@ pub const MARK: [u8; 2] = [0x50, 0x57];
 pub const RECORD_SIZE: usize = 10;
 
 // What a record says: its worker, kind (1 Post, 2 Wait, 3 Read, 4 Write), number and length.
-#[derive(Drop)]
+#[derive(Clone, Copy)]
 pub struct Operation {
     pub worker: u8,
     pub kind: u8,

@@ -1,4 +1,5 @@
 // Two complete runs of a file's trace for a pair of operations that is not ordered, written to two lent buffers.
+#![tactic(auto)]
 ghost use Rattle.std.specs.Prelude.{false, ◌≡◌, ◌<◌, ◌≤◌, length, take};
 ghost use Rattle.trace.specs.Reading.{trace_of};
 ghost use Rattle.model.specs.Computed.{must_precede_in};
@@ -14,7 +15,7 @@ use courses::Twice;
 use reader::ReadAnswer;
 
 // The operation count, which is the length of each run; or the refusal.
-#[derive(Drop)]
+#[derive(Clone, Copy)]
 pub enum RunsAnswer {
     Runs { operations: u32 },
     Refused { number: u8, place: u32 },

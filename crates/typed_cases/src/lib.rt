@@ -27,6 +27,7 @@
 //   entries                        from which place on; numbers of the table
 //   first, second                  from which place on; numbers of the first and of the second buffer or list
 //   written                        from which place on; bytes of the output
+#![tactic(auto)]
 use case_files::FILE;
 use case_lines::Line;
 use outcomes::SEEN;

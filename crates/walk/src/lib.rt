@@ -1,5 +1,6 @@
 // Walks by a set of ready workers, along each worker's list of Posts and Waits. For the crates above, which have read
 // the file and filled its index before.
+#![tactic(auto)]
 ghost use Rattle.std.specs.Prelude.{true, false, not, ◌&&◌, ◌≡◌, ℕ, ◌+◌, ◌%◌, ◌<◌, ◌≤◌, length, get_or, set};
 ghost use Rattle.events.specs.Events.{is_posted, with_post};
 ghost use Rattle.masks.specs.Masks.{Below, Lowest};
@@ -7,7 +8,7 @@ ghost use Rattle.index.specs.Steps.{ahead, holds, event};
 ghost use Rattle.walk.specs.Going.{Entered, Went, Sized, Turned, Walked};
 
 // How many operations each worker has done, and the set of posted events.
-#[derive(Drop)]
+#[derive(Clone, Copy)]
 pub struct Walk {
     pub done: [u16; 16],
     pub events: [u64; 4],
@@ -15,7 +16,7 @@ pub struct Walk {
 
 // Where a worker stopped in its list, how many operations it has done, and who is ready by it: those that it has freed,
 // and itself where it lets a lower one go first.
-#[derive(Drop)]
+#[derive(Clone, Copy)]
 struct Stop {
     at: usize,
     count: u16,

@@ -1,5 +1,5 @@
 -- Sets as words. In order: a bit as a test; what is in both, in one of two; one more, one less; the numbers above one;
--- a set cut down to the numbers below one, and shifted down; how many; the set of those that pass a test.
+-- a set cut down to the numbers below one; how many; the set of those that pass a test.
 use mathlib.Core.Bool.{Bool, true, false, cond, not, ◌&&◌, ◌||◌}
 use mathlib.Core.Logic.{◌⊎◌, inl, inr, ◌≢◌}
 use mathlib.Core.Path.{◌≡◌, refl, sym, ap, ap₂, ◌∙◌}
@@ -127,11 +127,6 @@ cut_in x n i l =
     let e : n ≡ suc d + i = omega arith in
     in-same (x % 2 ^ n) x i i
     (rw (e, field x (suc d) i) (rw add-one at (mod-mod-pow (x / 2 ^ i) d 1)))
-
--- ---- a set shifted down
-
-pub shifted_in : (x i k : ℕ) → is_in (x / 2 ^ i) k ≡ is_in x (i + k)
-shifted_in x i k = in-same (x / 2 ^ i) x k (i + k) (rw (shr-shr x i k))
 
 -- ---- the numbers above one
 

@@ -52,11 +52,11 @@ use Rattle.races.specs.Races.{to_write, CountCall}
 use Rattle.race_model.specs.contracts.Race as T
 use Rattle.races.specs.contracts.RacesAnswer as S
 use Rattle.races.proofs.RacesAnswer.TheLaws as S'
-use Rattle.races.proofs.fill_and_count as p
+use Rattle.races.specs.contracts.fill_and_count as p
 use Rattle.races.proofs.fill_and_count.Symbol as p-def
 use Rattle.races.proofs.fill_and_count.Symbol.{name as #fill}
 use Rattle.races.proofs.fill_and_count.Met as p-thm
-use Rattle.races.proofs.to_write as n
+use Rattle.races.specs.contracts.to_write as n
 use Rattle.races.proofs.to_write.Symbol as n-def
 use Rattle.races.proofs.to_write.Symbol.{name as #to-write}
 use Rattle.races.proofs.to_write.Met as n-thm
