@@ -1,0 +1,35 @@
+-- `beginning` meets its contract: the part starts 0 numbers behind the start of its list. Where neither list has a
+-- beginning, the part is the empty one of the first list, and starts there too.
+-- Assumes nothing.
+use mathlib.Core.Path.{◌≡◌, ap, sym, ◌∙◌}
+use native.Mathlib.Omega.{arith}
+use Prim.Native.Nat.{ℕ, ◌≤◌}
+use borrow.Author.Rules.{rules}
+use Rattle.beginning.specs.declared.Prefix.TheVariants.{OfFirst}
+use Rattle.beginning.proofs.Beginnings.{prefix-fits, call-first, call-second}
+use Rattle.beginning.proofs.beginning.Goals as goal
+
+none_left : (n : ℕ) → n ≤ 0 → n ≡ 0
+
+none_left n l = omega (arith, l)
+
+pub slice_bounds-result-end : goal.slice_bounds-result-end
+slice_bounds-result-end c =
+    prefix-fits _ _ _ _ (sym c.which_prefix.ensures ∙ c.length-1.given.1)
+
+pub returns-then-length-gt0 : goal.returns-then-length-gt0
+returns-then-length-gt0 c =
+    call-first _ _ _ _ (sym c.which_prefix.ensures ∙ c.length-1.given.1)
+
+pub slice_bounds-result-end-in-OfSecond : goal.slice_bounds-result-end-in-OfSecond
+slice_bounds-result-end-in-OfSecond c =
+    prefix-fits _ _ _ _ (sym c.which_prefix.ensures ∙ c.length-in-OfSecond-1.given.1)
+
+pub returns-else-length-gt0 : goal.returns-else-length-gt0
+returns-else-length-gt0 c =
+    let given = sym c.which_prefix.ensures ∙ c.length-1.given.1 in
+    call-first _ _ _ _ (given ∙ ap OfFirst (none_left _ c.if-length-gt0.false))
+
+pub returns-in-OfSecond : goal.returns-in-OfSecond
+returns-in-OfSecond c =
+    call-second _ _ _ _ (sym c.which_prefix.ensures ∙ c.length-in-OfSecond-1.given.1)

@@ -1,0 +1,15 @@
+-- `mersohki_canonical` meets its contract: the struct of what the call answers, and what the call leaves.
+-- Assumes nothing.
+use mathlib.Core.Path.{ap, ◌∙◌}
+use borrow.Author.Rules.{rules}
+use Rattle.c_results.specs.Results.{canonical_result}
+use Rattle.capi.proofs.mersohki_canonical.Goals as goal
+
+pub returns : goal.returns
+returns c =
+    let call = c.canonical.ensures in
+    record {
+      returns = c.result_of.ensures ∙ ap canonical_result call.answers;
+      leaves = call.leaves;
+      byte_elements = call.byte_elements;
+    }

@@ -1,0 +1,6 @@
+-- `first_of` meets its contract. Assumes nothing.
+use borrow.Author.Rules.{rules}
+use Rattle.conflicts.proofs.first_of.Goals as goal
+
+pub returns : goal.returns
+returns c = rw c.place_of.ensures.0

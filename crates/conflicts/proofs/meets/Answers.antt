@@ -1,0 +1,10 @@
+-- `meets` meets its contract. Assumes nothing.
+use borrow.Author.Rules.{rules}
+use lib.Dec.{leb}
+use Rattle.conflicts.specs.Cells.{meet}
+use Rattle.conflicts.proofs.Cells.{bit-and}
+use Rattle.conflicts.proofs.meets.Goals as goal
+
+pub returns : goal.returns
+unfolding meet
+returns c = bit-and (leb c.args.first c.args.other_last) (leb c.args.other-first c.args.last)

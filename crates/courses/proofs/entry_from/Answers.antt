@@ -1,0 +1,25 @@
+-- `entry_from` meets its contract. The invariant: the entries before s are passed. Assumes nothing.
+use native.Mathlib.Omega.{arith}
+use Prim.Native.Nat.{◌-◌}
+use borrow.Author.Rules.{rules}
+use Rattle.courses.proofs.Filling.{Passed, passed_start, passed-next, passed_entry}
+use Rattle.courses.proofs.entry_from.Goals as goal
+
+pub loop-s-init : goal.loop-s-init
+loop-s-init c = passed_start c.args.list.now c.args.prior c.requires.0
+
+pub bounds-list-s : goal.bounds-list-s
+bounds-list-s c = omega (arith, c.loop-s-test.true, c.requires.1)
+
+pub returns-then-prior-count_before : goal.returns-then-prior-count_before
+returns-then-prior-count_before c =
+    passed_entry c.loop-s.invariant
+    (λ l. omega (arith, c.if-prior-count_before.true, c.count_before.ensures.0))
+
+pub loop-s-preserved : goal.loop-s-preserved
+loop-s-preserved c =
+    passed-next c.loop-s.invariant c.loop-s-test.true
+    (omega (arith, c.if-prior-count_before.false, c.count_before.ensures.0))
+
+pub returns : goal.returns
+returns c = passed_entry c.loop-s.invariant (λ l. absurd (omega (arith, l, c.loop-s-test.false)))

@@ -1,0 +1,7 @@
+-- `with` meets its contract. Assumes nothing.
+use borrow.Author.Rules.{rules}
+use Rattle.masks.proofs.Sets.{with-one}
+use Rattle.masks.proofs.with.Goals as goal
+
+pub returns : goal.returns
+returns c = with-one c.args.set c.args.q c.requires

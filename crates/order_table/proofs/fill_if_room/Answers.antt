@@ -1,0 +1,21 @@
+-- `fill_if_room` meets its contract. Assumes nothing.
+use native.Mathlib.Omega.{arith}
+use borrow.Author.Rules.{rules}
+use Rattle.trace.proofs.Answers.{few-numbers}
+use Rattle.order_table.proofs.Answers.{call-filled, call-short}
+use Rattle.order_table.proofs.fill_if_room.Goals as goal
+
+pub overflow_mul-n : goal.overflow_mul-n
+overflow_mul-n c =
+    let few = few-numbers c.requires.1 in
+    search rules
+
+pub returns-then-n-p : goal.returns-then-n-p
+returns-then-n-p c =
+    let (accepted, holds, handed) = c.requires in
+    call-filled (accepted, holds) _ (omega (arith, c.if-n-p.true)) c.fill.ensures
+
+pub returns : goal.returns
+returns c =
+    let (accepted, holds, handed) = c.requires in
+    call-short (accepted, holds) _ (omega (arith, c.if-n-p.false))

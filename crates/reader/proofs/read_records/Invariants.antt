@@ -1,0 +1,20 @@
+-- `read_records` meets its contract. The invariant: what reading the file gives is what the records from k on give.
+-- Assumes nothing.
+use mathlib.Core.List.{[]}
+use mathlib.Core.Path.{◌≡◌, refl, ◌∙◌, sym, ap}
+use native.Mathlib.Omega.{arith}
+use Prim.Native.Nat.{◌≤◌, ◌-◌}
+use borrow.Author.Rules.{rules}
+use borrow.Author.Tests.{eqb-true, eqb-false, not-true, not-false}
+use Rattle.trace.specs.Form.{base}
+use Rattle.trace.specs.Reading.{file_reading}
+use Rattle.reader.specs.Answer.{answer_of}
+use Rattle.reader.proofs.ReaderSteps.{reading_at, records-start, records-end, header-few, header-inside}
+use Rattle.reader.proofs.ReaderSteps.{record-passes, record-refuses}
+use Rattle.reader.proofs.read_records.Given as goal
+
+abbrev pub invariant-loop-k : goal.invariant-loop-k
+invariant-loop-k l = (l.k ≤ l.n) × (file_reading l.file ≡ reading_at base l.p l.n l.file l.k)
+
+abbrev pub decreases-loop-k : goal.decreases-loop-k
+decreases-loop-k l = l.n - l.k

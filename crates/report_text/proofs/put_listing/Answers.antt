@@ -1,0 +1,31 @@
+-- `put_listing` meets its contract: the counts, a line for each race, and their number.
+-- Assumes nothing.
+use native.Mathlib.Omega.{arith}
+use borrow.Author.Rules.{rules}
+use Rattle.report_text.specs.ReportText.{listing}
+use Rattle.report_text.proofs.Listing.{counts-room, races-room, count_room, all_placed}
+use Rattle.report_text.proofs.put_listing.Goals as goal
+
+pub put_pair_line-first-requires : goal.put_pair_line-first-requires
+put_pair_line-first-requires c =
+    counts-room c.requires c.args.operations c.args.workers (omega arith) (omega arith)
+
+pub put_race_lines-last-requires : goal.put_race_lines-last-requires
+put_race_lines-last-requires c =
+    let a = c.args in
+    races-room c.requires a.operations a.workers (omega arith) (omega arith) c.put_pair_line-first.ensures
+
+pub put_count_line-requires : goal.put_count_line-requires
+put_count_line-requires c =
+    let a = c.args in
+    let lines = c.put_race_lines-last.ensures in
+    count_room c.requires a.operations a.workers (omega arith) (omega arith) c.put_pair_line-first.ensures
+    lines.0 lines.1 (omega arith)
+
+pub returns : goal.returns
+unfolding listing
+returns c =
+    let a = c.args in
+    let lines = c.put_race_lines-last.ensures in
+    all_placed c.requires a.operations a.workers (omega arith) (omega arith) c.put_pair_line-first.ensures
+    lines.0 lines.1 (omega arith) c.put_count_line.ensures

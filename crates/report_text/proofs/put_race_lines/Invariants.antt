@@ -1,0 +1,13 @@
+-- `put_race_lines` meets its contract: the lines of the first i races are placed.
+-- Assumes nothing.
+use native.Mathlib.Omega.{arith}
+use Prim.Native.Nat.{◌-◌}
+use borrow.Author.Rules.{rules}
+use Rattle.report_text.proofs.RaceLines.{LinesPlaced, lines_none, lines-room, lines_more, lines-all}
+use Rattle.report_text.proofs.put_race_lines.Given as goal
+
+abbrev pub invariant-loop-i : goal.invariant-loop-i
+invariant-loop-i l = LinesPlaced l.initial.output l.at l.lower l.higher l.count l.i l.end l.output
+
+abbrev pub decreases-loop-i : goal.decreases-loop-i
+decreases-loop-i l = l.count - l.i

@@ -1,0 +1,10 @@
+-- `posts` is safe and ends. Assumes nothing.
+use Prim.Native.Nat.{◌-◌}
+use borrow.Author.Rules.{rules}
+use Rattle.small_rules.proofs.posts.Given as goal
+
+abbrev pub invariant-loop-y : goal.invariant-loop-y
+invariant-loop-y l = Unit {0}
+
+abbrev pub decreases-loop-y : goal.decreases-loop-y
+decreases-loop-y l = 8 - l.y

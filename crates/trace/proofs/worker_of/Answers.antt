@@ -1,0 +1,6 @@
+-- `worker_of` meets its contract. Assumes nothing.
+use borrow.Author.Rules.{rules}
+use Rattle.trace.proofs.worker_of.Goals as goal
+
+pub returns : goal.returns
+returns c = rw c.operation_of-o.ensures

@@ -1,0 +1,16 @@
+-- `set_ends` meets its contract. The invariant: the ends of the pairs below i are set. Assumes nothing.
+use native.Mathlib.Omega.{arith}
+use Prim.Native.Nat.{◌-◌}
+use borrow.Author.Rules.{rules}
+use Rattle.unordered.specs.Beginning.{EndsSet}
+use Rattle.unordered.proofs.Beginning.{set-start, set_more, set-end}
+use Rattle.unordered.proofs.set_ends.Goals as goal
+
+pub loop-i-init : goal.loop-i-init
+loop-i-init c = set-start _ c.requires
+
+pub loop-i-preserved : goal.loop-i-preserved
+loop-i-preserved c = set_more _ c.loop-i.invariant c.loop-i-test.true c.first_end-end.ensures
+
+pub returns : goal.returns
+returns c = set-end _ c.loop-i.invariant c.loop-i-test.false
