@@ -1,7 +1,7 @@
 -- A run and its counts: where each worker's operations keep their order, how many of each worker a run holds tells
 -- which. In order: one operation more; the operations before one; `Counted` along steps; a worker's next operation;
 -- the same operations have the same counts; what a run holds. `worker` is explicit where no premise shows it.
-use mathlib.Core.Path.{◌≡◌, refl, sym, ◌∙◌}
+use mathlib.Core.Path.{◌≡◌, refl, sym, subst, ◌∙◌}
 use mathlib.Core.Bool.{Bool, true, false, cond}
 use mathlib.Core.List.Memᴰ
 use mathlib.Core.List.{List, [], ◌∷◌}
@@ -126,7 +126,9 @@ module _ (worker : ℕ → ℕ) where
             ]
 
         from : (y : ℕ) → y ∈ x ∷ d → earlier worker y < count worker (worker y) (x ∷ d)
-        from y (Memᴰ.head e) = rw (e, count-own d {x = x} refl, next) (omega arith)
+        from y (Memᴰ.head e) =
+            subst (λ (z : ℕ). earlier worker z < count worker (worker z) (x ∷ d)) (sym e)
+            (rw (count-own d {x = x} refl, next) (omega arith))
         from y (Memᴰ.tail m) = omega (arith, c.from_in m, grows y)
 
         to : (y : ℕ) → (worker x ≡ worker y) ⊎ (worker x ≢ worker y)

@@ -20,6 +20,6 @@ loop-i-preserved c =
     (more c.both-free.ensures, omega arith)
 
 pub returns : goal.returns
-returns c =
+returns c e =
     let inv = c.loop-i.invariant in
     eight-all _ _ (inv.0 e) inv.1 c.loop-i-test.false

@@ -29,7 +29,7 @@ pub loop-at-smaller : goal.loop-at-smaller
 loop-at-smaller c = omega arith
 
 pub loop-at-preserved : goal.loop-at-preserved
-loop-at-preserved c = c.eight_free.ensures (not-false _ c.if-not-eight_free.false)
+loop-at-preserved c = c.eight_free.ensures c.if-not-eight_free.false
 
 pub returns : goal.returns
 returns c = c.loop-at.invariant

@@ -6,6 +6,6 @@ use borrow.Author.Rules.{rules}
 use Rattle.race_words.proofs.is_empty.Goals as goal
 
 pub returns : goal.returns
-returns c =
+returns c e =
     block-empty c.args.kept.now c.args.w c.args.block c.joined-low.ensures c.joined-high.ensures
     c.joined.ensures (eqb-true _ _ e)
