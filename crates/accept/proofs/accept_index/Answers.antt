@@ -8,11 +8,11 @@ use Rattle.accept.proofs.accept_index.Goals as goal
 pub accept_if_complete-requires : goal.accept_if_complete-requires
 accept_if_complete-requires c =
     let (r, x) = c.read_index.ensures in
-    let h = answer-holds _ _ _ (sym r ∙ c.workers-1.given.1) in
+    let h = answer-holds _ _ _ (sym r ∙ c.in-Read.is) in
     (h, x.handed h)
 
 pub returns-in-Refused : goal.returns-in-Refused
 returns-in-Refused c =
     let (r, x) = c.read_index.ensures in
-    let e = sym r ∙ c.number-1.given.1 in
+    let e = sym r ∙ c.in-Refused.is in
     (answer-unread _ (answer-refused _ _ _ e), x)

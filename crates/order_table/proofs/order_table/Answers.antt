@@ -9,10 +9,10 @@ use Rattle.order_table.proofs.order_table.Goals as goal
 pub fill_if_room-requires : goal.fill_if_room-requires
 fill_if_room-requires c =
     let (answer, index) = c.accept_index.ensures in
-    let (accepted, holds) = answer-accepts _ _ _ (sym answer ∙ c.workers-1.given.1) in
+    let (accepted, holds) = answer-accepts _ _ _ (sym answer ∙ c.in-Accepted.is) in
     (accepted, holds, index.handed holds)
 
 pub returns-in-Refused : goal.returns-in-Refused
 returns-in-Refused c =
     let (answer, index) = c.accept_index.ensures in
-    call-refused _ _ (sym answer ∙ c.number-1.given.1)
+    call-refused _ _ (sym answer ∙ c.in-Refused.is)

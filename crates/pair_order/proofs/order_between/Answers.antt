@@ -32,7 +32,7 @@ must_precede-requires c =
 pub returns-then-must_precede : goal.returns-then-must_precede
 returns-then-must_precede c =
     let (x, y) = c.requires in
-    let h = answer-accepts _ _ _ (sym c.accept_if_done.ensures ∙ c.enum_told-1.given.1) in
+    let h = answer-accepts _ _ _ (sym c.accept_if_done.ensures ∙ c.in-Accepted.is) in
     answer-ordered h.0 x.holds _ _ y
     (ordered-before (trace_of c.args.file.now) _ _ c.must_precede.ensures c.if-must_precede.true)
 
@@ -44,9 +44,9 @@ order_back-requires c =
 pub returns-else-must_precede : goal.returns-else-must_precede
 returns-else-must_precede c =
     let (x, y) = c.requires in
-    let h = answer-accepts _ _ _ (sym c.accept_if_done.ensures ∙ c.enum_told-1.given.1) in
+    let h = answer-accepts _ _ _ (sym c.accept_if_done.ensures ∙ c.in-Accepted.is) in
     answer-ordered h.0 x.holds _ _ y c.order_back.ensures
 
 pub returns-in-Refused : goal.returns-in-Refused
 returns-in-Refused c =
-    answer-unaccepted _ _ _ (sym c.accept_if_done.ensures ∙ c.number-1.given.1)
+    answer-unaccepted _ _ _ (sym c.accept_if_done.ensures ∙ c.in-Refused.is)

@@ -9,10 +9,10 @@ use Rattle.pair_order.proofs.pair_order.Goals as goal
 pub order_if_pair-requires : goal.order_if_pair-requires
 order_if_pair-requires c =
     let (r, x) = c.read_index.ensures in
-    let h = answer-holds _ _ _ (sym r ∙ c.workers-1.given.1) in
+    let h = answer-holds _ _ _ (sym r ∙ c.in-Read.is) in
     record { holds = h; handed = x.handed h }
 
 pub returns-in-Refused : goal.returns-in-Refused
 returns-in-Refused c =
     let (r, x) = c.read_index.ensures in
-    answer-unaccepted _ _ _ (sym (answer-unread _ (answer-refused _ _ _ (sym r ∙ c.number-1.given.1))))
+    answer-unaccepted _ _ _ (sym (answer-unread _ (answer-refused _ _ _ (sym r ∙ c.in-Refused.is))))

@@ -8,7 +8,7 @@ use Rattle.races.proofs.fill_and_count.Goals as goal
 pub count_if_room-requires : goal.count_if_room-requires
 count_if_room-requires c =
     let call = c.order_table.ensures in
-    table-after-holds _ _ call.leaves (sym call.answers ∙ c.workers-1.given.1)
+    table-after-holds _ _ call.leaves (sym call.answers ∙ c.in-Filled.is)
 
 pub returns-in-Filled : goal.returns-in-Filled
 returns-in-Filled c =
@@ -17,4 +17,4 @@ returns-in-Filled c =
 pub returns-in-Refused : goal.returns-in-Refused
 returns-in-Refused c =
     let call = c.order_table.ensures in
-    counts-refused _ _ _ call.leaves (sym call.answers ∙ c.number-1.given.1)
+    counts-refused _ _ _ call.leaves (sym call.answers ∙ c.in-Refused.is)

@@ -82,27 +82,27 @@ after-4 c =
 
 pub returns-then-not-is_header : goal.returns-then-not-is_header
 unfolding header_question
-returns-then-not-is_header c = sym (first-no _ 1 (from 1 (file-1 c)) (answer-1 c ∙ not-true _ c.if-not-is_header.true))
+returns-then-not-is_header c = sym (first-no _ 1 (from 1 (file-1 c)) (answer-1 c ∙ c.if-not-is_header.true))
 
 pub operation_in-header-requires : goal.operation_in-header-requires
-operation_in-header-requires c = header-long _ _ (answer-1 c ∙ not-false _ c.if-not-is_header.false)
+operation_in-header-requires c = header-long _ _ (answer-1 c ∙ c.if-not-is_header.false)
 
 pub returns-then-not-workers_fit : goal.returns-then-not-workers_fit
 returns-then-not-workers_fit c =
-    let no = first-no _ 2 (from 2 (file-2 c)) (answer-2 c ∙ not-true _ c.if-not-workers_fit.true) in
+    let no = first-no _ 2 (from 2 (file-2 c)) (answer-2 c ∙ c.if-not-workers_fit.true) in
     sym (after-1 c ∙ no)
 
 pub returns-then-not-count_fits : goal.returns-then-not-count_fits
 returns-then-not-count_fits c =
-    let no = first-no _ 3 (from 3 (file-3 c)) (answer-3 c ∙ not-true _ c.if-not-count_fits.true) in
+    let no = first-no _ 3 (from 3 (file-3 c)) (answer-3 c ∙ c.if-not-count_fits.true) in
     sym (after-2 c ∙ no)
 
 pub is_whole-requires : goal.is_whole-requires
-is_whole-requires c = leb-true _ _ (sym c.count_fits.ensures ∙ not-false _ c.if-not-count_fits.false)
+is_whole-requires c = leb-true _ _ (sym c.count_fits.ensures ∙ c.if-not-count_fits.false)
 
 pub returns-then-not-is_whole : goal.returns-then-not-is_whole
 returns-then-not-is_whole c =
-    let no = first-no _ 4 (from 4 (file-4 c)) (answer-4 c ∙ not-true _ c.if-not-is_whole.true) in
+    let no = first-no _ 4 (from 4 (file-4 c)) (answer-4 c ∙ c.if-not-is_whole.true) in
     sym (after-3 c ∙ no)
 
 pub returns : goal.returns

@@ -32,13 +32,13 @@ pub returns-then-not-record_passes : goal.returns-then-not-record_passes
 returns-then-not-record_passes c =
     let asked = c.record_question.ensures in
     let here = record-refuses base _ _ _ c.requires _ _ _ c.loop-k-test.true c.record_start-at.ensures asked in
-    let no = sym (c.record_passes.ensures []) ∙ not-true _ c.if-not-record_passes.true in
+    let no = sym (c.record_passes.ensures []) ∙ c.if-not-record_passes.true in
     sym (ap answer_of c.loop-k.invariant.1 ∙ here (λ z. eqb-false _ 0 no (sym (asked []) ∙ z)))
 
 pub loop-k-preserved : goal.loop-k-preserved
 loop-k-preserved c =
     let here = record-passes base _ _ _ c.requires _ _ 0 c.loop-k-test.true c.record_start-at.ensures in
-    let yes = not-false _ c.if-not-record_passes.false in (
+    let yes = c.if-not-record_passes.false in (
       omega arith,
       c.loop-k.invariant.1 ∙ here (λ before. sym (eqb-true _ 0 (sym (c.record_passes.ensures before) ∙ yes))) refl,
     )

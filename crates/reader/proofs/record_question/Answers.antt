@@ -106,26 +106,26 @@ module _ (before : List Operation) where
 pub returns-then-not-is_marked : goal.returns-then-not-is_marked
 unfolding record_question
 returns-then-not-is_marked c = λ before.
-    sym (first-no _ 5 (from 1 (start-5 c) before) (answer-5 c ∙ not-true _ c.if-not-is_marked.true))
+    sym (first-no _ 5 (from 1 (start-5 c) before) (answer-5 c ∙ c.if-not-is_marked.true))
 
 pub returns-then-not-worker_known : goal.returns-then-not-worker_known
 returns-then-not-worker_known c = λ before.
-    let no = first-no _ 6 (from 2 (start-6 c) before) (answer-6 c ∙ not-true _ c.if-not-worker_known.true) in
+    let no = first-no _ 6 (from 2 (start-6 c) before) (answer-6 c ∙ c.if-not-worker_known.true) in
     sym (after-5 before c ∙ no)
 
 pub returns-then-not-kind_known : goal.returns-then-not-kind_known
 returns-then-not-kind_known c = λ before.
-    let no = first-no _ 7 (from 3 (start-7 c) before) (answer-7 c ∙ not-true _ c.if-not-kind_known.true) in
+    let no = first-no _ 7 (from 3 (start-7 c) before) (answer-7 c ∙ c.if-not-kind_known.true) in
     sym (after-6 before c ∙ no)
 
 pub returns-then-not-event_fits : goal.returns-then-not-event_fits
 returns-then-not-event_fits c = λ before.
-    let no = first-no _ 8 (from 4 (start-8 c) before) (answer-8 c ∙ not-true _ c.if-not-event_fits.true) in
+    let no = first-no _ 8 (from 4 (start-8 c) before) (answer-8 c ∙ c.if-not-event_fits.true) in
     sym (after-7 before c ∙ no)
 
 pub returns-then-not-cells_fit : goal.returns-then-not-cells_fit
 returns-then-not-cells_fit c = λ before.
-    let no = first-no _ 9 (from 5 (start-9 c) before) (answer-9 c ∙ not-true _ c.if-not-cells_fit.true) in
+    let no = first-no _ 9 (from 5 (start-9 c) before) (answer-9 c ∙ c.if-not-cells_fit.true) in
     sym (after-8 before c ∙ no)
 
 pub returns : goal.returns

@@ -8,7 +8,7 @@ use Rattle.report_text.proofs.put_answer.Goals as goal
 
 pub put_listing-requires : goal.put_listing-requires
 put_listing-requires c =
-    rw c.answer-1.given.1 at c.requires
+    rw c.in-Listed.is at c.requires
 
 pub put_pair_line-requires : goal.put_pair_line-requires
 unfolding refusal
@@ -20,9 +20,9 @@ put_pair_line-requires c =
 
 pub returns-in-Listed : goal.returns-in-Listed
 returns-in-Listed c =
-    rw c.answer-1.given.1 c.put_listing.ensures
+    rw c.in-Listed.is c.put_listing.ensures
 
 pub returns-in-Refused : goal.returns-in-Refused
 unfolding refusal
 returns-in-Refused c =
-    rw c.answer-in-Refused-1.given.1 c.put_pair_line.ensures
+    rw c.in-Refused.is c.put_pair_line.ensures

@@ -8,9 +8,9 @@ use Rattle.streams.proofs.read_up_to.Goals as goal
 
 pub returns-in-Done : goal.returns-in-Done
 returns-in-Done c =
-    rw c.all-1.given.1 at c.read_once.ensures.within
+    rw c.in-Done.is at c.read_once.ensures.within
 
 pub loop-calls-preserved : goal.loop-calls-preserved
 loop-calls-preserved c =
     let size = c.loop-calls.invariant.1 in
-    (rw c.next-1.given.1 at c.read_once.ensures.within, search rules)
+    (rw c.in-Again.is at c.read_once.ensures.within, search rules)

@@ -14,4 +14,4 @@ step_after-requires c =
 
 pub loop-calls-preserved : goal.loop-calls-preserved
 loop-calls-preserved c =
-    rw c.next-1.given.1 at c.step_after.ensures.1
+    rw c.in-Again.is at c.step_after.ensures.1

@@ -5,7 +5,7 @@ use Rattle.c_results.specs.Results.{accept_result}
 use Rattle.c_results.proofs.accept_result.result_of.Goals as goal
 
 pub returns-in-Accepted : goal.returns-in-Accepted
-returns-in-Accepted c = sym (ap accept_result c.answer-1.given.1)
+returns-in-Accepted c = sym (ap accept_result c.in-Accepted.is)
 
 pub returns-in-Refused : goal.returns-in-Refused
-returns-in-Refused c = sym (ap accept_result c.answer-in-Refused-1.given.1)
+returns-in-Refused c = sym (ap accept_result c.in-Refused.is)

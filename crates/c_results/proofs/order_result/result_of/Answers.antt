@@ -10,7 +10,7 @@ use Rattle.c_results.proofs.order_result.result_of.Goals as goal
 pub returns-in-Ordered : goal.returns-in-Ordered
 returns-in-Ordered c =
     let kept = to_z-of_z (sfits_of c.known_told-1.given.0.1) in
-    ap (λ (z : ℤ). order_result (Ordered z)) kept ∙ sym (ap order_result c.answer-1.given.1)
+    ap (λ (z : ℤ). order_result (Ordered z)) kept ∙ sym (ap order_result c.in-Ordered.is)
 
 pub returns-in-Refused : goal.returns-in-Refused
-returns-in-Refused c = sym (ap order_result c.answer-in-Refused-1.given.1)
+returns-in-Refused c = sym (ap order_result c.in-Refused.is)

@@ -5,7 +5,7 @@ use Rattle.c_results.specs.Results.{races_result}
 use Rattle.c_results.proofs.races_result.result_of.Goals as goal
 
 pub returns-in-Listed : goal.returns-in-Listed
-returns-in-Listed c = sym (ap races_result c.answer-1.given.1)
+returns-in-Listed c = sym (ap races_result c.in-Listed.is)
 
 pub returns-in-Refused : goal.returns-in-Refused
-returns-in-Refused c = sym (ap races_result c.answer-in-Refused-1.given.1)
+returns-in-Refused c = sym (ap races_result c.in-Refused.is)

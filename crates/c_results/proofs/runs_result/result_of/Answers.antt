@@ -5,7 +5,7 @@ use Rattle.c_results.specs.Results.{runs_result}
 use Rattle.c_results.proofs.runs_result.result_of.Goals as goal
 
 pub returns-in-Runs : goal.returns-in-Runs
-returns-in-Runs c = sym (ap runs_result c.answer-1.given.1)
+returns-in-Runs c = sym (ap runs_result c.in-Runs.is)
 
 pub returns-in-Refused : goal.returns-in-Refused
-returns-in-Refused c = sym (ap runs_result c.answer-in-Refused-1.given.1)
+returns-in-Refused c = sym (ap runs_result c.in-Refused.is)

@@ -5,7 +5,7 @@ use Rattle.c_results.specs.Results.{table_result}
 use Rattle.c_results.proofs.table_result.result_of.Goals as goal
 
 pub returns-in-Filled : goal.returns-in-Filled
-returns-in-Filled c = sym (ap table_result c.answer-1.given.1)
+returns-in-Filled c = sym (ap table_result c.in-Filled.is)
 
 pub returns-in-Refused : goal.returns-in-Refused
-returns-in-Refused c = sym (ap table_result c.answer-in-Refused-1.given.1)
+returns-in-Refused c = sym (ap table_result c.in-Refused.is)
