@@ -10,7 +10,6 @@ use Rattle.beginning.proofs.Beginnings.{prefix-fits, call-first, call-second}
 use Rattle.beginning.proofs.beginning.Goals as goal
 
 none_left : (n : ℕ) → n ≤ 0 → n ≡ 0
-
 none_left n l = omega (arith, l)
 
 pub slice_bounds-result-end : goal.slice_bounds-result-end

@@ -7,4 +7,4 @@ use Rattle.conflicts.proofs.meets.Goals as goal
 
 pub returns : goal.returns
 unfolding meet
-returns c = bit-and (leb c.args.first c.args.other_last) (leb c.args.other-first c.args.last)
+returns c = bit-and (leb c.args.first c.args.other_last) (leb c.args.other_first c.args.last)

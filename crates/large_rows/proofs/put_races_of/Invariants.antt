@@ -9,4 +9,4 @@ abbrev pub invariant-loop-b : goal.invariant-loop-b
 invariant-loop-b l = (length l.lower ≡ length l.initial.lower) × (length l.higher ≡ length l.initial.higher)
 
 abbrev pub decreases-loop-b : goal.decreases-loop-b
-decreases-loop-b l = l.b_end - l.b
+decreases-loop-b l = l.b-end - l.b

@@ -21,11 +21,11 @@ bounds-row-i c =
 
 pub overflow_add-list : goal.overflow_add-list
 overflow_add-list c =
-    omega (arith, c.loop-i-test.true, c.requires.0, c.well-formed)
+    omega (arith, c.loop-i-test.true, c.requires.0, c.well_formed)
 
 pub offset_bounds-list-at : goal.offset_bounds-list-at
 offset_bounds-list-at c =
-    omega (arith, c.loop-i-test.true, c.requires.0, c.well-formed)
+    omega (arith, c.loop-i-test.true, c.requires.0, c.well_formed)
 
 pub bounds-list-at : goal.bounds-list-at
 bounds-list-at c =

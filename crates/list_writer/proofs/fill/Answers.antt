@@ -12,11 +12,11 @@ loop-i-init c = pasted-none _ _ c.requires (filled-long _ _)
 
 pub overflow_add-list : goal.overflow_add-list
 overflow_add-list c =
-    omega (arith, c.loop-i-test.true, c.requires, c.well-formed)
+    omega (arith, c.loop-i-test.true, c.requires, c.well_formed)
 
 pub offset_bounds-list-at : goal.offset_bounds-list-at
 offset_bounds-list-at c =
-    omega (arith, c.loop-i-test.true, c.requires, c.well-formed)
+    omega (arith, c.loop-i-test.true, c.requires, c.well_formed)
 
 pub bounds-list-at : goal.bounds-list-at
 bounds-list-at c =

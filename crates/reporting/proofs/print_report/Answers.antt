@@ -12,7 +12,6 @@ use Rattle.reporting.proofs.print_report.Goals as goal
 
 starts : {bytes lent : List ℕ} {size : ℕ} {now : List ℕ} → ReportCall bytes lent size now
     → take size now ≡ report_text bytes
-
 starts {bytes} c = rw (c.leaves, c.answers) (take_at (report_text bytes) _ (length (report_text bytes)) refl)
 
 pub slice_bounds-text-end : goal.slice_bounds-text-end

@@ -11,7 +11,6 @@ use Rattle.table_rows.proofs.put_row.Goals as goal
 width : (s : tie.Start)
     → let first = s.args.k * s.args.p in
     length (take (first + s.args.p - first) (drop first s.args.table.now)) ≡ s.args.p
-
 width s =
     let first = s.args.k * s.args.p in
     let same = add-sub_cancel_left first s.args.p in
