@@ -48,8 +48,7 @@ loop-at-preserved c =
     let (x, clear) = c.loop-at.invariant in
     let free = sym c.is_held.ensures ∙ c.if-is_held.false in
     let (freed, events, waiting) = rw c.event_of-e.ensures at c.release-more.ensures in
-    let apart = c.are_apart.result in
-    let more = c.are_apart.ensures.0 ((test-true _).1 ((not-fails apart (λ h. h, λ h. h)).0 c.if-not-are_apart.false)) in
+    let more = c.are_apart.ensures.0 c.if-not-are_apart.false in
     rw (freed, events, waiting)
     (along-step c.requires.0 x c.loop-at-test.true clear free (rw freed at more))
 
