@@ -12,7 +12,9 @@ use Rattle.races.proofs.PairWriting.{table-few, RowsWritten, rows_none, rows-roo
 use Rattle.races.proofs.write_rows.Given as goal
 
 abbrev pub invariant-loop-a : goal.invariant-loop-a
-invariant-loop-a l = RowsWritten (trace_of l.file) l.a l.at l.low l.lower l.high l.higher × RowsAt l.file l.table l.a l.cells l.next l.kept l.seen l.row
+invariant-loop-a l =
+    RowsWritten (trace_of l.file) l.a l.at l.initial.lower l.lower l.initial.higher l.higher
+    × RowsAt l.file l.table l.a l.cells l.next l.kept l.seen l.row
 
 abbrev pub decreases-loop-a : goal.decreases-loop-a
 decreases-loop-a l = l.n - l.a
