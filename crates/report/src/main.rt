@@ -1,5 +1,5 @@
 // Reads a trace file from standard input, and prints its report.
 #![tactic(auto)]
-fn main() {
-    reporting::report_from(libc::STDIN_FILENO, b"standard input");
+fn main(rt: HostRuntime) {
+    reporting::report_from(&rt, &mut rt.stdin(), "standard input");
 }

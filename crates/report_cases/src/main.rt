@@ -1,31 +1,41 @@
 // Prints the report of each file that the arguments name, under its name.
 #![tactic(auto)]
-use libc::STDOUT_FILENO;
+use std::env::{Env, FillError};
+use std::fs::File;
+use std::io;
+use std::rt::Files;
 
-// The report of argument i.
-fn report_argument(i: usize) {
-    let mut path = io::buffer();
-    let length = os::arg(i, &mut path);
-    if os::errno() != 0 {
-        os::fail(b"argument");
-        return;
+// The report of the file of that name.
+fn report_file<H: Files + Print + Eprint>(rt: &H, path: &str) -> io::Result<()> {
+    match File::open(rt, path) {
+        Ok(mut file) => {
+            println!(rt; "{path}")?;
+            reporting::report_from(rt, &mut file, path);
+        }
+        Err(error) => reporting::fail(rt, path, Some(error)),
     }
-    let fd = os::open_read(&path[..length]);
-    if fd < 0 {
-        os::fail(&path[..length]);
-        return;
-    }
-    io::write_all(STDOUT_FILENO, &path[..length]);
-    io::write_all(STDOUT_FILENO, b"\n");
-    reporting::report_from(fd, &path[..length]);
-    libc::close(fd);
+    Ok(())
 }
 
-fn main() {
-    let count = os::arg_count();
-    let mut i: usize = 1;
-    while i < count {
-        report_argument(i);
-        i += 1;
+// The report of an argument's bytes' file.
+fn report_argument<H: Files + Print + Eprint>(rt: &H, path: &[u8]) -> io::Result<()> {
+    match str::from_utf8(path) {
+        Ok(path) => report_file(rt, path),
+        Err(_) => {
+            reporting::fail(rt, "argument", None);
+            Ok(())
+        }
     }
+}
+
+fn main(rt: HostRuntime) -> io::Result<()> {
+    let mut path = [0u8; 4096];
+    for i in 1..usize::MAX {
+        match rt.arg(i, &mut path) {
+            Ok(length) => report_argument(&rt, &path[..length])?,
+            Err(FillError::TooLong) => reporting::fail(&rt, "argument", None),
+            Err(FillError::NotPresent) => break,
+        }
+    }
+    Ok(())
 }

@@ -1,31 +1,35 @@
 -- What comes after a call of the system, by its answer, and how many bytes it can say that it moved. Which bytes the
 -- system moves, no contract can say.
--- Follows: POSIX's read and write, which answer a number of bytes, 0 at the end of the input, or −1 with an error; the
--- error of an interrupted call, EINTR, is 4 on Linux. The enum is that of src/lib.rt.
+-- Follows: the `read` and `write` of std's `Read` and `Write`, which answer how many bytes they moved, 0 at the end of
+-- the input, or an error; that of an interrupted call is of the kind `Interrupted`. The enum is that of src/lib.rt.
 -- Differs: nowhere.
-use Rattle.std.specs.Prelude.{Bool, false, cond, List, ◌≡◌, ℕ, zero, suc, ◌+◌, ◌-◌, ◌≤◌, eqb, ℤ, pos, negsuc, length, take}
-use Rattle.libc.specs.Io.{Moved}
+use Rattle.std.specs.Prelude.{Bool, true, false, cond, List, ◌≡◌, ℕ, zero, suc, ◌+◌, ◌-◌, ◌≤◌, length, take}
+use Rattle.std.specs.Prelude.{Result, Ok, Err, IfOk}
+use Rattle.std.specs.IoError.{error_kind}
+use Rattle.std.specs.declared.io.Error.{Error}
+use Rattle.std.specs.declared.io.ErrorKind.{ErrorKind}
+use Rattle.std.specs.declared.io.ErrorKind.TheVariants.{Interrupted}
 use Rattle.streams.specs.declared.Step.{Step}
 use Rattle.streams.specs.declared.Step.TheVariants.{Again, Done}
 
--- is an error EINTR?
-abbrev pub is_interruption : ℤ → Bool
-is_interruption (pos n) = eqb n 4
-is_interruption (negsuc k) = false
+-- is an error's kind that of an interrupted call?
+abbrev pub is_interruption : ErrorKind → Bool
+is_interruption Interrupted = true
+is_interruption _ = false
 
--- what a call may answer that is handed the bytes behind the first `count` of `all`: −1, or how many of them it moved
-pub record AnswersBehind (all count : ℕ) (got : ℤ) : Type 0 where
+-- what a call may answer that is handed the bytes behind the first `count` of `all`: an error, or how many of them it
+-- moved
+pub record AnswersBehind (all count : ℕ) (got : Result ℕ Error) : Type 0 where
   pub inside : count ≤ all
-  pub moved : Moved (all - count) got
+  pub moved : IfOk got (λ n. n ≤ all - count)
 
--- after a call that was handed the bytes behind the first `count`, by what it answered, and by its error: a call that
--- was interrupted moved none and is made again, and one that failed otherwise ends it all, before the whole; 0 is the
--- end of the input in reading, and in writing a failure; else so many more bytes are moved, and the next call is for
--- those behind them
-abbrev pub step_after : ℤ → ℤ → Bool → ℕ → Step
-step_after (negsuc k) error reading count = cond (is_interruption error) (Again count) (Done count false)
-step_after (pos zero) error reading count = Done count reading
-step_after (pos (suc k)) error reading count = Again (count + suc k)
+-- after a call that was handed the bytes behind the first `count`, by what it answered: a call that was interrupted
+-- moved none and is made again, and one that failed otherwise ends it all, before the whole; 0 is the end of the input
+-- in reading, and in writing a failure; else so many more bytes are moved, and the next call is for those behind them
+abbrev pub step_after : Result ℕ Error → Bool → ℕ → Step
+step_after (Err error) reading count = cond (is_interruption (error_kind error)) (Again count) (Done count false)
+step_after (Ok zero) reading count = Done count reading
+step_after (Ok (suc k)) reading count = Again (count + suc k)
 
 -- no more than `most` bytes are moved
 abbrev pub StepWithin : Step → ℕ → Type 0

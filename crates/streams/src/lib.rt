@@ -1,15 +1,28 @@
-// Reading a descriptor up to its end, and writing bytes to one. A call that a signal interrupts is made again, and one
+// Reading a reader up to its end, and writing bytes to a writer. A call that a signal interrupts is made again, and one
 // that fails is told from the end of the input. No contract can say which bytes the system moves.
 #![tactic(auto)]
+
 ghost use Rattle.std.specs.Prelude.{◌≡◌, ◌≤◌, length};
+ghost use Rattle.std.specs.Result.{result_err};
 ghost use Rattle.streams.specs.Streams.{AnswersBehind, step_after, StepWithin, ReadBehind};
 
+use std::io::{Error, ErrorKind, Read, Result, Write};
+
 // What reading gave: how many bytes were read, and whether that is all that was to be read, up to the input's end or as
-// many as there was room for. It is not where a read failed.
+// many as there was room for. It is not where a read failed, and `error` is then why.
 #[derive(Clone, Copy)]
 pub struct Input {
     pub count: usize,
     pub whole: bool,
+    pub error: Option<Error>,
+}
+
+// What writing gave: whether all bytes were written. They were not where a write failed, and `error` is then why; there
+// is none where a write moved nothing.
+#[derive(Clone, Copy)]
+pub struct Output {
+    pub whole: bool,
+    pub error: Option<Error>,
 }
 
 // What comes after one call of the system: one more call, behind the first `count` bytes; or none, and whether the
@@ -20,65 +33,75 @@ enum Step {
     Done { count: usize, whole: bool },
 }
 
-// What comes after a call that was to move the bytes behind the first `count`, answered `got`, and left `error`. One
-// that moves none is the end of the input in `reading`, and in writing a failure.
-fn step_after(got: isize, error: i32, reading: bool, bytes: &[u8], count: usize) -> Step
+// What comes after a call that was to move the bytes behind the first `count`, and answered `got`. One that moves none
+// is the end of the input in `reading`, and in writing a failure.
+fn step_after(got: Result<usize>, reading: bool, bytes: &[u8], count: usize) -> Step
     requires { AnswersBehind (length bytes.now) count got }
-    ensures { (result ≡ step_after got error reading count) × StepWithin result (length bytes.now) }
+    ensures told { result ≡ step_after got reading count }
+    ensures within { StepWithin result (length bytes.now) }
 {
-    if got < 0 {
-        if error == libc::EINTR {
-            return Step::Again { count: count };
+    match got {
+        Err(error) => {
+            if error.kind() == ErrorKind::Interrupted {
+                return Step::Again { count: count };
+            }
+            Step::Done {
+                count: count,
+                whole: false,
+            }
         }
-        return Step::Done {
-            count: count,
-            whole: false,
-        };
-    }
-    if got == 0 {
-        return Step::Done {
-            count: count,
-            whole: reading,
-        };
-    }
-    let more = io::count(got, &bytes[count..]);
-    Step::Again {
-        count: count + more,
+        Ok(more) => {
+            if more == 0 {
+                return Step::Done {
+                    count: count,
+                    whole: reading,
+                };
+            }
+            Step::Again {
+                count: count + more,
+            }
+        }
     }
 }
 
-// The error that a call left which answered `got`; 0 where it did not fail.
-fn error_after(got: isize) -> i32 {
-    if got < 0 {
-        return os::errno();
-    }
-    0
+// The error that a call left which answered `got`; none where it did not fail.
+fn error_after(got: Result<usize>) -> Option<Error>
+    ensures { result ≡ result_err got }
+{
+    got.err()
 }
 
-// One read, to the part of the buffer behind the `count` bytes that are read.
-fn read_once(fd: i32, buffer: &mut [u8], count: usize) -> Step
+// One read, to the part of the buffer behind the `count` bytes that are read; its error is left in `error`.
+fn read_once<R: Read>(
+    reader: &mut R,
+    buffer: &mut [u8],
+    count: usize,
+    error: &mut Option<Error>,
+) -> Step
     requires { count ≤ length buffer.old }
     ensures { ReadBehind buffer.old count result buffer.new }
 {
-    let got = libc::read(fd, &mut buffer[count..]);
-    let error = error_after(got);
-    step_after(got, error, true, buffer, count)
+    let got = reader.read(&mut buffer[count..]);
+    *error = error_after(got);
+    step_after(got, true, buffer, count)
 }
 
 // Reads up to the input's end, or until the buffer is full.
-pub fn read_up_to(fd: i32, buffer: &mut [u8]) -> Input
+pub fn read_up_to<R: Read>(reader: &mut R, buffer: &mut [u8]) -> Input
     ensures { result.count ≤ length buffer.new }
 {
     let mut count: usize = 0;
+    let mut error = None;
     let mut calls = u64::MAX;
     while 0 < calls {
         if buffer.len() <= count {
             return Input {
                 count: count,
                 whole: true,
+                error: None,
             };
         }
-        match read_once(fd, buffer, count) {
+        match read_once(reader, buffer, count, &mut error) {
             Step::Again { count: next } => {
                 count = next;
             }
@@ -86,6 +109,7 @@ pub fn read_up_to(fd: i32, buffer: &mut [u8]) -> Input
                 return Input {
                     count: all,
                     whole: whole,
+                    error: error,
                 };
             }
         }
@@ -94,28 +118,39 @@ pub fn read_up_to(fd: i32, buffer: &mut [u8]) -> Input
     Input {
         count: count,
         whole: false,
+        error: error,
     }
 }
 
 // Writes all bytes, and answers whether it could.
-pub fn write_whole(fd: i32, bytes: &[u8]) -> bool {
+pub fn write_whole<W: Write>(writer: &mut W, bytes: &[u8]) -> Output {
     let mut count: usize = 0;
+    let mut error = None;
     let mut calls = u64::MAX;
     while 0 < calls {
         if bytes.len() <= count {
-            return true;
+            return Output {
+                whole: true,
+                error: None,
+            };
         }
-        let got = libc::write(fd, &bytes[count..]);
-        let error = error_after(got);
-        match step_after(got, error, false, bytes, count) {
+        let got = writer.write(&bytes[count..]);
+        error = error_after(got);
+        match step_after(got, false, bytes, count) {
             Step::Again { count: next } => {
                 count = next;
             }
             Step::Done { count: _, whole } => {
-                return whole;
+                return Output {
+                    whole: whole,
+                    error: error,
+                };
             }
         }
         calls -= 1;
     }
-    false
+    Output {
+        whole: false,
+        error: error,
+    }
 }

@@ -1,5 +1,6 @@
 // Text in lent memory: lines of numbers, placed one behind the other. For the crates above, which write text.
 #![tactic(auto)]
+
 ghost use Rattle.std.specs.Prelude.{◌+◌, ◌≤◌, length};
 ghost use Rattle.text.specs.Decimal.{decimal};
 ghost use Rattle.text.specs.Lines.{labelled, count_line, pair_line};

@@ -1,9 +1,6 @@
 -- `put` meets its contract: the first i bytes are placed.
 -- Assumes nothing.
-use Prim.Native.Nat.{◌-◌}
-use lib.ListN.{length}
-use borrow.Author.Rules.{rules}
-use Rattle.text.proofs.Placing.{Copied, copied_none, copied_more, copied_all}
+use Rattle.text.proofs.Placing.{copied_none, copied_more, copied_all}
 use Rattle.text.proofs.put.Goals as goal
 
 pub loop-i-init : goal.loop-i-init

@@ -1,6 +1,5 @@
 -- `put_count_line` meets its contract: a number behind its label, and the line's end.
 -- Assumes nothing.
-use borrow.Author.Rules.{rules}
 use Rattle.text.specs.Ascii.{ascii}
 use Rattle.text.proofs.Placing.{room-first, placed-room, placed-then}
 use Rattle.text.specs.Lines.{labelled, count_line}

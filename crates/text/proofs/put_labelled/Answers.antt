@@ -1,6 +1,5 @@
 -- `put_labelled` meets its contract: the number is placed behind the label.
 -- Assumes nothing.
-use borrow.Author.Rules.{rules}
 use Rattle.text.specs.Decimal.{decimal}
 use Rattle.text.specs.Lines.{labelled}
 use Rattle.text.proofs.Placing.{room-first, placed-room, placed-then}

@@ -1,7 +1,6 @@
 -- `put_pair_line` meets its contract: two numbers behind their labels, and the line's end.
 -- Assumes nothing.
 use mathlib.Core.List.{◌++◌}
-use borrow.Author.Rules.{rules}
 use Rattle.text.specs.Ascii.{ascii}
 use Rattle.text.proofs.Placing.{room-first, placed-room, placed-room-first, placed-then}
 use Rattle.text.specs.Lines.{labelled, pair_line}
