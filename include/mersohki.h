@@ -4,7 +4,7 @@
  * These are the functions of the proved library, under C names. Each one takes all bytes and all numbers, finishes, and
  * answers with a struct, by value. docs/GUIDE.md says what a trace file is, and what to do about a refusal.
  *
- * Link with target/staticlib/libcapi.a, which `rt staticlib capi` writes (x86-64, Linux). The library needs memcpy and
+ * Link with target/staticlib/libcapi.a, which `bindings/archive` writes (x86-64, Linux). The library needs memcpy and
  * memset of the C library, and nothing else: it allocates nothing, keeps nothing between calls, and makes no system
  * call. So any number of threads may call it at once, each with memory of its own to be written.
  *

@@ -1,6 +1,6 @@
 """The example of bindings/c/example.c, in Python.
 
-    rt staticlib capi
+    bindings/archive
     python3 bindings/python/example.py traces/b.pw
 """
 import sys

@@ -2,7 +2,7 @@
 
 The first call loads the shared library: the one that the environment variable MERSOHKI_LIBRARY names; or else
 libmersohki.so beside this module; or else, in the repository, target/bindings/libmersohki.so, which is linked from the
-static library with the C compiler ($CC, or cc) unless it is newer than that. `rt staticlib capi` writes the static
+static library with the C compiler ($CC, or cc) unless it is newer than that. `bindings/archive` writes the static
 library.
 
 A file is any bytes-like object. A refusal is raised as `Refused`. Memory is lent by this module, so that no caller has
@@ -96,7 +96,7 @@ def _linked(archive, shared):
     if not archive.exists():
         raise FileNotFoundError(
             "MERSOHKI_LIBRARY is not set, no libmersohki.so lies beside the module, and there is no"
-            f" {archive}, which `rt staticlib capi` writes"
+            f" {archive}, which `bindings/archive` writes"
         )
     if not shared.exists() or shared.stat().st_mtime < archive.stat().st_mtime:
         shared.parent.mkdir(parents=True, exist_ok=True)

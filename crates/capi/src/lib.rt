@@ -1,6 +1,7 @@
 // The C interface: calls under C names, on numbers and slices; an answer is a struct of numbers (crate `c_results`), by
-// value. A slice is a pointer and a length in C. include/mersohki.h declares all of it.
+// value. `capi_c` exports them. A slice is a pointer and a length in C. include/mersohki.h declares all of it.
 #![tactic(auto)]
+
 ghost use Rattle.std.specs.Prelude.{◌≡◌};
 ghost use Rattle.accept.specs.Acceptance.{accept_answer};
 ghost use Rattle.pair_order.specs.Order.{order_answer};
@@ -17,16 +18,14 @@ use c_results::runs_result::RunsResult;
 use c_results::table_result::TableResult;
 
 // Asks the file's questions, of any bytes.
-#[unsafe(no_mangle)]
-pub extern "C" fn mersohki_accept(file: &[u8]) -> AcceptResult
+pub fn mersohki_accept(file: &[u8]) -> AcceptResult
     ensures { result ≡ accept_result (accept_answer file.now) }
 {
     c_results::accept_result::result_of(accept::accept(file))
 }
 
 // Asks the file's questions and 11, of any bytes and any table; where none refuses, the order table.
-#[unsafe(no_mangle)]
-pub extern "C" fn mersohki_order_table(file: &[u8], table: &mut [u16]) -> TableResult
+pub fn mersohki_order_table(file: &[u8], table: &mut [u16]) -> TableResult
     ensures { TableFunction file.now table.old result table.new }
 {
     c_results::table_result::result_of(order_table::order_table(file, table))
@@ -34,8 +33,7 @@ pub extern "C" fn mersohki_order_table(file: &[u8], table: &mut [u16]) -> TableR
 
 // Asks the file's questions, 12 and 13, of any bytes and any two numbers; where none refuses, the order of the two
 // operations.
-#[unsafe(no_mangle)]
-pub extern "C" fn mersohki_pair_order(file: &[u8], a: u32, b: u32) -> OrderResult
+pub fn mersohki_pair_order(file: &[u8], a: u32, b: u32) -> OrderResult
     ensures { result ≡ order_result (order_answer file.now a b) }
 {
     c_results::order_result::result_of(pair_order::pair_order(file, a, b))
@@ -43,8 +41,7 @@ pub extern "C" fn mersohki_pair_order(file: &[u8], a: u32, b: u32) -> OrderResul
 
 // Asks the file's questions and 12 to 15, of any bytes, any two numbers and any buffers; where none refuses, the two
 // runs.
-#[unsafe(no_mangle)]
-pub extern "C" fn mersohki_two_runs(
+pub fn mersohki_two_runs(
     file: &[u8],
     a: u32,
     b: u32,
@@ -59,8 +56,7 @@ pub extern "C" fn mersohki_two_runs(
 
 // Asks the file's questions, 11 and 16, of any bytes, any table and any two lists; where none refuses, the races, and
 // the order table; where 16 does, the order table.
-#[unsafe(no_mangle)]
-pub extern "C" fn mersohki_races(
+pub fn mersohki_races(
     file: &[u8],
     table: &mut [u16],
     lower: &mut [u16],
@@ -73,8 +69,7 @@ pub extern "C" fn mersohki_races(
 }
 
 // Asks the file's questions and 17, of any bytes and any output; where none refuses, the tidy file.
-#[unsafe(no_mangle)]
-pub extern "C" fn mersohki_canonical(file: &[u8], output: &mut [u8]) -> CanonicalResult
+pub fn mersohki_canonical(file: &[u8], output: &mut [u8]) -> CanonicalResult
     ensures { CanonicalFunction file.now output.old result output.new }
 {
     c_results::canonical_result::result_of(canonical::canonical(file, output))
@@ -82,13 +77,7 @@ pub extern "C" fn mersohki_canonical(file: &[u8], output: &mut [u8]) -> Canonica
 
 // The part of the first list that ends with the first appearance of `chosen`, where `other` appears after it and not
 // before it; failing that, the same part of the second list; failing both, nothing of the first.
-#[unsafe(no_mangle)]
-pub extern "C" fn mersohki_beginning(
-    first: &[u16],
-    second: &[u16],
-    chosen: u32,
-    other: u32,
-) -> BeginningResult
+pub fn mersohki_beginning(first: &[u16], second: &[u16], chosen: u32, other: u32) -> BeginningResult
     ensures { result
         ≡ beginning_result (prefix_of first.now second.now chosen other) }
 {

@@ -2,10 +2,11 @@
 // most races, on random traces and on damaged files; compares it with the race list on two lists of numbers, and prints
 // what was seen. The first line has the mismatches of each of these parts.
 #![tactic(auto)]
+
 use compare_records::{LIST, TABLE};
-use libc::STDOUT_FILENO;
 use most_races::MOST;
 use outcomes::{MISMATCHES, NUMBERS, RACES, SEEN};
+use std::io;
 
 // Example A
 
@@ -112,43 +113,43 @@ fn random_cases(
 
 // What is printed
 
-fn print_number(label: &[u8], x: u64) {
-    io::write_all(STDOUT_FILENO, label);
-    io::print_decimal(STDOUT_FILENO, x);
+fn print_number<H: Print>(rt: &H, label: &str, x: u64) -> io::Result<()> {
+    print!(rt; "{label}{x}")
 }
 
 // The number behind a label, on a line; nothing where it is 0.
-fn print_some(label: &[u8], x: u64) {
-    if 0 < x {
-        print_number(label, x);
-        io::write_all(STDOUT_FILENO, b"\n");
+fn print_some<H: Print>(rt: &H, label: &str, x: u64) -> io::Result<()> {
+    if x == 0 {
+        return Ok(());
     }
+    println!(rt; "{label}{x}")
 }
 
-fn print_refused(number: usize, x: u64) {
-    if 0 < x {
-        print_number(b"  refused ", number as u64);
-        print_some(b": ", x);
+fn print_refused<H: Print>(rt: &H, number: usize, x: u64) -> io::Result<()> {
+    if x == 0 {
+        return Ok(());
     }
+    println!(rt; "  refused {number}: {x}")
 }
 
-fn print_all_refused(seen: &[u64; SEEN]) {
+fn print_all_refused<H: Print>(rt: &H, seen: &[u64; SEEN]) -> io::Result<()> {
     for number in 1..NUMBERS {
-        print_refused(number, seen[number]);
+        print_refused(rt, number, seen[number])?;
     }
+    Ok(())
 }
 
-fn print_seen(title: &[u8], seen: &[u64; SEEN]) {
-    io::write_all(STDOUT_FILENO, title);
-    print_some(b"  listed: ", seen[0]);
-    print_all_refused(seen);
-    print_some(b"  races compared: ", seen[RACES]);
+fn print_seen<H: Print>(rt: &H, title: &str, seen: &[u64; SEEN]) -> io::Result<()> {
+    println!(rt; "{title}")?;
+    print_some(rt, "  listed: ", seen[0])?;
+    print_all_refused(rt, seen)?;
+    print_some(rt, "  races compared: ", seen[RACES])
 }
 
 // How many small traces, damaged files and large traces.
 const CASES: usize = 300;
 
-fn main() {
+fn main(rt: HostRuntime) -> io::Result<()> {
     let mut of_example = [0u64; SEEN];
     let mut most = [0u64; SEEN];
     let mut small = [0u64; SEEN];
@@ -157,14 +158,14 @@ fn main() {
     example(&mut of_example);
     most_races::most_races(&mut most);
     random_cases(&mut small, &mut damaged, &mut large, CASES);
-    print_number(b"mismatches ", of_example[MISMATCHES]);
-    print_number(b" ", most[MISMATCHES]);
-    print_number(b" ", small[MISMATCHES]);
-    print_number(b" ", damaged[MISMATCHES]);
-    print_number(b" ", large[MISMATCHES]);
-    print_seen(b"\nexample A\n", &of_example);
-    print_seen(b"the most races\n", &most);
-    print_seen(b"random traces\n", &small);
-    print_seen(b"damaged files\n", &damaged);
-    print_seen(b"large traces\n", &large);
+    print_number(&rt, "mismatches ", of_example[MISMATCHES])?;
+    print_number(&rt, " ", most[MISMATCHES])?;
+    print_number(&rt, " ", small[MISMATCHES])?;
+    print_number(&rt, " ", damaged[MISMATCHES])?;
+    print_number(&rt, " ", large[MISMATCHES])?;
+    print_seen(&rt, "\nexample A", &of_example)?;
+    print_seen(&rt, "the most races", &most)?;
+    print_seen(&rt, "random traces", &small)?;
+    print_seen(&rt, "damaged files", &damaged)?;
+    print_seen(&rt, "large traces", &large)
 }
