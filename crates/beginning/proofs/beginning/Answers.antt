@@ -4,7 +4,6 @@
 use mathlib.Core.Path.{◌≡◌, ap, sym, ◌∙◌}
 use native.Mathlib.Omega.{arith}
 use Prim.Native.Nat.{ℕ, ◌≤◌}
-use borrow.Author.Rules.{rules}
 use Rattle.beginning.specs.declared.Prefix.TheVariants.{OfFirst}
 use Rattle.beginning.proofs.Beginnings.{prefix-fits, call-first, call-second}
 use Rattle.beginning.proofs.beginning.Goals as goal

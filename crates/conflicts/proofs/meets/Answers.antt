@@ -1,5 +1,4 @@
 -- `meets` meets its contract. Assumes nothing.
-use borrow.Author.Rules.{rules}
 use lib.Dec.{leb}
 use Rattle.conflicts.specs.Cells.{meet}
 use Rattle.conflicts.proofs.Cells.{bit-and}

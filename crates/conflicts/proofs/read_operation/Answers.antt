@@ -1,6 +1,5 @@
 -- `read_operation` meets its contract. Assumes nothing.
 use native.Mathlib.Omega.{arith}
-use borrow.Author.Rules.{rules}
 use Rattle.trace.specs.Trace.{is_write}
 use Rattle.conflicts.proofs.Cells.{operation-fits}
 use Rattle.conflicts.proofs.ReadingCells.{next_low, mark-fits, read_more}

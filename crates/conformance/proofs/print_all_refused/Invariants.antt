@@ -1,6 +1,5 @@
 -- `print_all_refused` is safe and ends. Assumes nothing.
 use Prim.Native.Nat.{◌-◌}
-use borrow.Author.Rules.{rules}
 use Rattle.conformance.proofs.print_all_refused.Given as goal
 
 abbrev pub invariant-loop-number : goal.invariant-loop-number

@@ -1,6 +1,5 @@
 -- `print_kinds` is safe and ends. Assumes nothing.
 use Prim.Native.Nat.{◌-◌}
-use borrow.Author.Rules.{rules}
 use Rattle.conformance.proofs.print_kinds.Given as goal
 
 abbrev pub invariant-loop-i : goal.invariant-loop-i

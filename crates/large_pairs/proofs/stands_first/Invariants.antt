@@ -1,6 +1,5 @@
 -- `stands_first` is safe and ends. Assumes nothing.
 use Prim.Native.Nat.{◌-◌}
-use borrow.Author.Rules.{rules}
 use Rattle.large_pairs.proofs.stands_first.Given as goal
 
 abbrev pub invariant-loop-i : goal.invariant-loop-i

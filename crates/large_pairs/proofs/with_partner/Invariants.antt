@@ -1,6 +1,5 @@
 -- `with_partner` is safe and ends. Assumes nothing.
 use Prim.Native.Nat.{◌-◌}
-use borrow.Author.Rules.{rules}
 use Rattle.large_pairs.proofs.with_partner.Given as goal
 
 abbrev pub invariant-loop-i : goal.invariant-loop-i

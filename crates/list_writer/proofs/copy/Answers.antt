@@ -2,8 +2,7 @@
 use mathlib.Core.Path.{refl}
 use native.Mathlib.Omega.{arith}
 use Prim.Native.Nat.{◌-◌}
-use borrow.Author.Rules.{rules}
-use Rattle.list_writer.proofs.Pasting.{Pasted, pasted-none, pasted-size, pasted-more, pasted-all}
+use Rattle.list_writer.proofs.Pasting.{pasted-none, pasted-size, pasted-more, pasted-all}
 use Rattle.list_writer.proofs.copy.Goals as goal
 
 pub loop-i-init : goal.loop-i-init

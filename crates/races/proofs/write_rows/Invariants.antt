@@ -1,14 +1,9 @@
 -- `write_rows` meets its contract. The invariant: the races whose lower operation is below a are written.
 -- Assumes nothing.
-use native.Mathlib.Omega.{arith}
-use Prim.Native.Nat.{◌-◌, ◌<◌}
-use borrow.Author.Rules.{rules}
+use Prim.Native.Nat.{◌-◌}
 use Rattle.trace.specs.Reading.{trace_of}
-use Rattle.trace.specs.Trace.{size}
-use Rattle.table_entries.proofs.TableEntries.{table-reads, table-short}
 use Rattle.race_rows.specs.Rows.{RowsAt}
-use Rattle.race_rows.proofs.RowStart.{rows_start}
-use Rattle.races.proofs.PairWriting.{table-few, RowsWritten, rows_none, rows-room, rows_more, rows_all}
+use Rattle.races.proofs.PairWriting.{RowsWritten}
 use Rattle.races.proofs.write_rows.Given as goal
 
 abbrev pub invariant-loop-a : goal.invariant-loop-a

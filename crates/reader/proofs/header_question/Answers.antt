@@ -90,7 +90,7 @@ returns-then-not-is_whole c =
     let w = answer-of worker_test e c.workers_fit.ensures c.if-not-workers_fit.false in
     let n = answer-of count_test e c.count_fits.ensures c.if-not-count_fits.false in
     let l =
-        answer-of (λ (o : Operation). is_whole base o.number file) e c.is_whole.ensures c.if-not-is_whole.true in
+    answer-of (λ (o : Operation). is_whole base o.number file) e c.is_whole.ensures c.if-not-is_whole.true in
     sym
     (after-3 file (sym c.is_header.ensures ∙ c.if-not-is_header.false) w n
     ∙ first-no _ 4 (from file 4) l)
@@ -102,5 +102,5 @@ returns c =
     let w = answer-of worker_test e c.workers_fit.ensures c.if-not-workers_fit.false in
     let n = answer-of count_test e c.count_fits.ensures c.if-not-count_fits.false in
     let l =
-        answer-of (λ (o : Operation). is_whole base o.number file) e c.is_whole.ensures c.if-not-is_whole.false in
+    answer-of (λ (o : Operation). is_whole base o.number file) e c.is_whole.ensures c.if-not-is_whole.false in
     sym (after-4 file (sym c.is_header.ensures ∙ c.if-not-is_header.false) w n l)

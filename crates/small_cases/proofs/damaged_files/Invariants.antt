@@ -1,6 +1,5 @@
 -- `damaged_files` is safe and ends. Assumes nothing.
 use Prim.Native.Nat.{◌-◌}
-use borrow.Author.Rules.{rules}
 use Rattle.small_cases.proofs.damaged_files.Given as goal
 
 abbrev pub invariant-loop-i : goal.invariant-loop-i

@@ -1,6 +1,5 @@
 -- `random_lists` is safe and ends. Assumes nothing.
 use Prim.Native.Nat.{◌-◌}
-use borrow.Author.Rules.{rules}
 use Rattle.small_cases.proofs.random_lists.Given as goal
 
 abbrev pub invariant-loop-i : goal.invariant-loop-i

@@ -1,6 +1,5 @@
 -- `random_traces` is safe and ends. Assumes nothing.
 use Prim.Native.Nat.{◌-◌}
-use borrow.Author.Rules.{rules}
 use Rattle.small_cases.proofs.random_traces.Given as goal
 
 abbrev pub invariant-loop-i : goal.invariant-loop-i

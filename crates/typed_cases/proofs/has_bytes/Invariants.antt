@@ -1,6 +1,5 @@
 -- `has_bytes` is safe and ends. Assumes nothing.
 use Prim.Native.Nat.{◌-◌}
-use borrow.Author.Rules.{rules}
 use Rattle.typed_cases.proofs.has_bytes.Given as goal
 
 abbrev pub invariant-loop-i : goal.invariant-loop-i

@@ -1,6 +1,5 @@
 -- `typed_cases` is safe and ends. Assumes nothing.
 use Prim.Native.Nat.{◌-◌}
-use borrow.Author.Rules.{rules}
 use Rattle.typed_cases.proofs.typed_cases.Given as goal
 
 abbrev pub invariant-loop-i : goal.invariant-loop-i
