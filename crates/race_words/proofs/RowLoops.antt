@@ -6,7 +6,8 @@ use Prim.Native.Nat.{ℕ, ◌+◌, ◌*◌, ◌/◌, ◌<◌, ◌≤◌}
 use lib.ListN.{length, take, length-append, length-map}
 use Rattle.trace.specs.Trace.{Trace, size}
 use Rattle.words.specs.Passing.{passing}
-use Rattle.words.specs.Words.{is_in, raised, Room, Listed}
+use Rattle.words.specs.Words.{is_in, raised}
+use Rattle.word_lists.specs.Lists.{Room, Listed}
 use Rattle.words.proofs.Passing.{passing-none, passing-end, passing-agree, passing-raised, passing-few}
 use Rattle.race_model.specs.RaceList.{is_race}
 use Rattle.race_model.specs.RaceRows.{race_row, RowHolds}
@@ -91,7 +92,7 @@ module _ {t : Trace} {a : ℕ} {row : List ℕ} where
           long = c.long;
         }
 
-    pub listed_more : {x end : ℕ} {row' : List ℕ} → RaceWord t a v x → Listed x (32 * v) at row row' end
+    pub listed_more : {x end : ℕ} {row' : List ℕ} → RaceWord t a v x → Listed x 32 (32 * v) at row row' end
         → ListedTo t a (v + 1) row' end
     listed_more {x} r l =
         record {

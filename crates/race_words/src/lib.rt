@@ -138,7 +138,7 @@ pub fn list_words(
     let mut v = a / 32;
     while 32 * v < n {
         let word = row_word(file, cells, kept, seen, a, w, slot, v);
-        at = words::list(word, 32 * v, at, row);
+        at = word_lists::list(word, 32 * v, at, row);
         v += 1;
     }
     at

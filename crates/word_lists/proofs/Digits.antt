@@ -3,10 +3,12 @@ use mathlib.Core.Bool.{Bool, true, false, ◌&&◌}
 use mathlib.Core.List.{List, [], ◌∷◌}
 use mathlib.Core.Path.{◌≡◌, sym, subst, ◌∙◌}
 use native.Mathlib.Nat.{add-zero, zero-add, add-suc, suc-add, le_of_suc-le-suc, not-suc-le-zero}
-use Prim.Native.Nat.{ℕ, zero, suc, ◌+◌, ◌-◌, ◌/◌, ◌%◌, ◌<◌}
+use native.Mathlib.Omega.{arith}
+use Prim.Native.Nat.{ℕ, zero, suc, ◌+◌, ◌*◌, ◌-◌, ◌/◌, ◌%◌, ◌<◌}
 use lib.Dec.{T, eqb, eqb→eq}
 use lib.ListN.{length, get_or}
 use Rattle.words.specs.Passing.{passing}
+use Rattle.word_lists.specs.declared.TheConstants.{MEMBERS, SIZES}
 use Rattle.words.specs.Words.{is_in}
 
 -- ---- a test at all places of a list
@@ -47,10 +49,30 @@ member_digit k d = eqb d (48 + get_or (passing (is_in (k / 8)) 8) (k % 8) 0)
 pub size_digit : ℕ → ℕ → Bool
 size_digit x d = eqb d (48 + length (passing (is_in x) 8))
 
-pub member-digit : {k d : ℕ} → T (member_digit k d) → d ≡ 48 + get_or (passing (is_in (k / 8)) 8) (k % 8) 0
+pub member-digit : (k d : ℕ) → T (member_digit k d) → d ≡ 48 + get_or (passing (is_in (k / 8)) 8) (k % 8) 0
 unfolding member_digit
-member-digit {k} {d} t = eqb→eq d (48 + get_or (passing (is_in (k / 8)) 8) (k % 8) 0) t
+member-digit k d t = eqb→eq d (48 + get_or (passing (is_in (k / 8)) 8) (k % 8) 0) t
 
-pub size-digit : {x d : ℕ} → T (size_digit x d) → d ≡ 48 + length (passing (is_in x) 8)
+pub size-digit : (x d : ℕ) → T (size_digit x d) → d ≡ 48 + length (passing (is_in x) 8)
 unfolding size_digit
-size-digit {x} {d} t = eqb→eq d (48 + length (passing (is_in x) 8)) t
+size-digit x d t = eqb→eq d (48 + length (passing (is_in x) 8)) t
+
+-- the digits of the first table
+members-hold : T (every member_digit 0 MEMBERS.now)
+unfolding member_digit passing is_in
+members-hold = tt
+
+pub member-at : (x j : ℕ) → x < 256 → j < 8 → get_or MEMBERS.now (8 * x + j) 0 ≡ 48 + get_or (passing (is_in x) 8) j 0
+member-at x j h l =
+    let byte : (8 * x + j) / 8 ≡ x = omega arith in
+    let number : (8 * x + j) % 8 ≡ j = omega arith in
+    rw byte at (rw number at
+    (member-digit (8 * x + j) _ (at_place member_digit MEMBERS.now members-hold (8 * x + j) (omega arith))))
+
+-- the digits of the second table
+sizes-hold : T (every size_digit 0 SIZES.now)
+unfolding size_digit passing is_in
+sizes-hold = tt
+
+pub size-at : (x : ℕ) → x < 256 → get_or SIZES.now x 0 ≡ 48 + length (passing (is_in x) 8)
+size-at x h = size-digit x _ (at_place size_digit SIZES.now sizes-hold x h)

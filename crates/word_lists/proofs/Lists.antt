@@ -12,7 +12,8 @@ use Rattle.basics.proofs.Booleans.{less?}
 use Rattle.words.specs.Passing.{passing}
 use Rattle.words.specs.Words.{is_in, raised}
 use Rattle.words.proofs.Passing.{passing-none, passing-few, passing-agree, passing-raised}
-use Rattle.words.proofs.Sets.{cut_in, none_in, shifted_in}
+use lib.Pow.{shr-shr}
+use Rattle.words.proofs.Sets.{cut_in, none_in}
 use Rattle.word_lists.specs.Lists.{Room, ByteRoom, Listed}
 
 -- ---- a byte, number by number
@@ -67,6 +68,10 @@ module _ {x first at : ℕ} {row₀ : List ℕ} {j : ℕ} {row : List ℕ} (b : 
 
 -- ---- all of it, byte by byte
 
+shifted-in : (x i k : ℕ) → is_in (x / 2 ^ i) k ≡ is_in x (i + k)
+unfolding is_in
+shifted-in x i k = rw (shr-shr x i k)
+
 raised-twice : (first i : ℕ) (l : List ℕ) → raised first (raised i l) ≡ raised (first + i) l
 raised-twice first i [] = refl
 raised-twice first i (k ∷ l) =
@@ -120,7 +125,7 @@ module _ {x first at : ℕ} {row₀ : List ℕ} {i end : ℕ} {row : List ℕ} (
       passing-raised (is_in x) i 8
       ∙ ap (λ (l : List ℕ). passing (is_in x) i ++ raised i l)
       (passing-agree (λ k. is_in x (i + k)) (is_in (x / 2 ^ i % 256)) 8
-      (λ k l. sym (cut_in (x / 2 ^ i) 8 k l ∙ shifted_in x i k)))
+      (λ k l. sym (cut_in (x / 2 ^ i) 8 k l ∙ shifted-in x i k)))
 
   pub list-more : {byte wide end' : ℕ} {row' : List ℕ} → i < 32 → wide ≡ i → byte ≡ x / 2 ^ i % 256
       → Listed byte 8 (first + wide) end row row' end' → ListedBelow x first at row₀ (i + 8) end' row'

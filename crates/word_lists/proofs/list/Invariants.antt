@@ -1,0 +1,10 @@
+-- `list` meets its contract. The invariant: the numbers below i are listed. Assumes nothing.
+use Prim.Native.Nat.{◌-◌}
+use Rattle.word_lists.proofs.Lists.{ListedBelow}
+use Rattle.word_lists.proofs.list.Given as goal
+
+abbrev pub invariant-loop-i : goal.invariant-loop-i
+invariant-loop-i l = ListedBelow l.x l.first l.at l.initial.row l.i l.end l.row
+
+abbrev pub decreases-loop-i : goal.decreases-loop-i
+decreases-loop-i l = 32 - l.i

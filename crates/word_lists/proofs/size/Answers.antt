@@ -1,0 +1,10 @@
+-- `size` meets its contract: the digit that stands in the table. Assumes nothing.
+use native.Mathlib.Omega.{arith}
+use Rattle.word_lists.proofs.Digits.{size-at}
+use Rattle.word_lists.proofs.size.Goals as goal
+
+pub overflow_sub-result : goal.overflow_sub-result
+overflow_sub-result c = omega (arith, size-at c.args.x c.requires)
+
+pub returns : goal.returns
+returns c = omega (arith, size-at c.args.x c.requires)
