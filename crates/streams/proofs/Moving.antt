@@ -1,8 +1,8 @@
--- Bytes that are moved behind those that were moved before. In order: how many a step moves; one read or write; the next
--- one, behind what was moved.
+-- Bytes that are moved behind those that were moved before. In order: how many a step moves; one read or write; the
+-- next one, behind what was moved.
 use Rattle.std.proofs.Common.{◌≡◌, ℕ, zero, suc, ◌≤◌, Bool, true, false, cond, List, [], ◌++◌, length, take, drop}
-use Rattle.std.proofs.Common.{Option, None, Some, Result, Ok, Err, refl, sym, ap, subst, ◌∙◌, arith, append-nil, append_assoc}
-use Rattle.std.proofs.Common.{drop_at, take-append-drop}
+use Rattle.std.proofs.Common.{Option, None, Some, Result, Ok, Err, refl, sym, ap, subst, ◌∙◌, arith}
+use Rattle.std.proofs.Common.{append-nil, append_assoc, drop_at, take-append-drop}
 use Rattle.std.proofs.Math.Seq.{take-take}
 use Rattle.std.proofs.lemmas.List.{drop-take, take-append-le}
 use Rattle.std.specs.Io.{ReadsAtMost}
