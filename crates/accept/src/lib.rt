@@ -1,6 +1,7 @@
 // The questions that every call asks of a file first, of any bytes; reading a file asks no others. The index of a file
 // that reads as a trace is filled on the way, and handed on.
 #![tactic(auto)]
+
 ghost use Rattle.std.specs.Prelude.{◌≡◌};
 ghost use Rattle.trace.specs.Premises.{HoldsTrace};
 ghost use Rattle.trace.specs.Reading.{file_reading, trace_of};

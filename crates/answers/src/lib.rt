@@ -2,6 +2,7 @@
 // memory, as many as are said; where there are not so many, the call is not made, and the answer is one that no call
 // gives.
 #![tactic(auto)]
+
 use outcomes::Answer;
 
 pub fn accept_answer(file: &[u8]) -> Answer {

@@ -1,7 +1,7 @@
 -- The bits of a number. In order: the one of a conjunction, of a union, of a difference; those of a power of two; of a
 -- row of ones; the lowest one; an array of zeros.
 use mathlib.Core.Logic.{◌⊎◌, inl, inr, ◌≢◌}
-use mathlib.Core.Path.{◌≡◌, refl, sym, ◌∙◌}
+use mathlib.Core.Path.{◌≡◌, refl}
 use native.Mathlib.Nat.{div_self, div-eq_of_lt, mul-div_cancel, div-one, div-div-eq-div-mul, pow-succ', pow-suc}
 use native.Mathlib.Omega.{arith}
 use Prim.Native.Nat.{ℕ, zero, suc, ◌+◌, ◌-◌, ◌*◌, ◌/◌, ◌%◌, ◌^◌, ◌≤◌, ◌<◌, max, min}

@@ -1,5 +1,6 @@
 // Tests and widths: both of two tests, one of them, and a number in a wider type.
 #![tactic(auto)]
+
 ghost use Rattle.std.specs.Prelude.{◌&&◌, ◌||◌, ◌≡◌, ◌<◌};
 
 // Do both hold? With both worked out before, no branch hangs on the one or the other.

@@ -1,5 +1,6 @@
 // The beginning of a run, up to a chosen number, as a part of one of two lent lists.
 #![tactic(auto)]
+
 ghost use Rattle.std.specs.Prelude.{◌≡◌, true, ◌+◌, ◌≤◌, length};
 ghost use Rattle.beginning.specs.Computed.{first_index, beginning_length, prefix_of, BeginningCall};
 ghost use Rattle.beginning.specs.Searched.{Searched};

@@ -3,6 +3,7 @@
 // In each struct but `BeginningResult`, which has no refusal, stand the refusal's number and place, both 0 where the
 // call does not refuse; then the call's values, all 0 where it does.
 #![tactic(auto)]
+
 pub mod accept_result;
 pub mod beginning_result;
 pub mod canonical_result;

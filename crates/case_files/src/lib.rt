@@ -1,5 +1,6 @@
 // The file at hand of typed cases, as lines change it; what they say is told at the head of `typed_cases`.
 #![tactic(auto)]
+
 use case_lines::Line;
 
 // The largest file that can be lent.

@@ -1,5 +1,6 @@
 // The words of typed cases. What they mean is said in `typed_cases`.
 #![tactic(auto)]
+
 ghost use Rattle.std.specs.Prelude.{◌≤◌};
 
 // The words, by their places in the list below.

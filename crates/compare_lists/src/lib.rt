@@ -1,5 +1,6 @@
 // The order table, the race list and the tidy file, compared with what all runs say.
 #![tactic(auto)]
+
 use outcomes::{Answer, SEEN};
 
 // The order table

@@ -1,5 +1,6 @@
 // The pair order, the two runs and the beginning of a run, compared with what all runs say.
 #![tactic(auto)]
+
 use outcomes::{Answer, SEEN};
 
 // The order of a pair

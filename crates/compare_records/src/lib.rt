@@ -1,5 +1,6 @@
 // The race list on records, through a local list of records, and on two lists of numbers, compared.
 #![tactic(auto)]
+
 use outcomes::{Answer, RACES, SEEN};
 use races::RacesAnswer;
 

@@ -1,5 +1,6 @@
 // Compares the calls on one trace in two file orders: they answer the same, but for the numbers of the operations.
 #![tactic(auto)]
+
 use large_rows::TABLE;
 use outcomes::SEEN;
 

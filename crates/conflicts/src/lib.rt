@@ -1,5 +1,6 @@
 // The cells of all operations in one array, and the operations in conflict with one, as sets: a bit for each.
 #![tactic(auto)]
+
 ghost use Rattle.std.specs.Prelude.{◌≡◌, ◌+◌, ◌*◌, ◌^◌, ◌<◌, length, get_or};
 ghost use Rattle.trace.specs.Reading.{trace_of};
 ghost use Rattle.trace.specs.Trace.{is_write};

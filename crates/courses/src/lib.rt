@@ -1,6 +1,7 @@
 // Where a walk starts, with nothing left out or without an operation, and what its end tells. For the crates above,
 // which have read the file and filled its index before.
 #![tactic(auto)]
+
 ghost use Rattle.std.specs.Prelude.{List, ◌≡◌, ℕ, ◌+◌, ◌-◌, ◌<◌, ◌≤◌, length, get_or, set};
 ghost use Rattle.trace.specs.Premises.{Fits};
 ghost use Rattle.trace.specs.Trace.{Trace, size};

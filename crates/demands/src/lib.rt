@@ -2,5 +2,6 @@
 // makes one call, and its `ensures` is the promise that the theorems speak of. Its proof has nothing but the call's own
 // contract to go by, so that a contract which said less would leave it unproved.
 #![tactic(auto)]
+
 mod calls;
 mod functions;

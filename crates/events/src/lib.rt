@@ -1,5 +1,6 @@
 // The set of posted events, in four words: event e is bit e % 64 of word e / 64.
 #![tactic(auto)]
+
 ghost use Rattle.std.specs.Prelude.{not, ◌&&◌, ◌≡◌, ◌<◌, eqb};
 ghost use Rattle.events.specs.Events.{is_posted, with_post};
 

@@ -1,5 +1,6 @@
 // Runs of a trace of up to eight operations: every one of them is tried.
 #![tactic(auto)]
+
 use small_rules::Rules;
 
 // The lowest operation from `from` on that may follow, or 8.

@@ -1,5 +1,6 @@
 // What is due from the calls on a file of up to eight operations: what all its runs say, by document 01's words.
 #![tactic(auto)]
+
 use outcomes::Answer;
 use small_rules::Rules;
 

@@ -1,6 +1,7 @@
 // Makes the calls on large traces, each in two file orders, and compares them with runs step by step, and with one
 // another.
 #![tactic(auto)]
+
 use large_rows::TABLE;
 use outcomes::{Answer, SEEN};
 

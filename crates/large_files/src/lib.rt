@@ -1,5 +1,6 @@
 // Files of large random traces, and of the same traces in another file order, for tests.
 #![tactic(auto)]
+
 ghost use Rattle.std.specs.Prelude.{◌≤◌};
 
 // How a trace is drawn.

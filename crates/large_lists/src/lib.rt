@@ -1,6 +1,7 @@
 // The race list and the tidy file on a large trace, compared with the rows of its table and with document 01's words;
 // and the calls on a large trace that is refused.
 #![tactic(auto)]
+
 use large_rows::TABLE;
 use outcomes::{Answer, SEEN};
 

@@ -1,5 +1,6 @@
 // The pair order and the two runs on a large trace, compared with the rows of its table and with runs step by step.
 #![tactic(auto)]
+
 use large_rows::TABLE;
 use outcomes::{Answer, SEEN};
 

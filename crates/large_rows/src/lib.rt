@@ -1,5 +1,6 @@
 // The rows of a large trace's table compared with runs step by step, and the orders and races that the rows say.
 #![tactic(auto)]
+
 use outcomes::SEEN;
 
 // Space for a table, a little longer than the largest trace needs.

@@ -1,6 +1,7 @@
 // The call `race_list::race_list` on a local list, for tests: the records come from two lists of numbers, and go back
 // to them.
 #![tactic(auto)]
+
 ghost use Rattle.std.specs.Prelude.{◌≤◌};
 
 use race_model::Race;

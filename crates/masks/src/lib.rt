@@ -1,5 +1,6 @@
 // Sets of workers: worker q is in the set where bit q is 1.
 #![tactic(auto)]
+
 ghost use Rattle.std.specs.Prelude.{◌<◌, ◌≤◌, ◌≡◌, true, ◌↔◌};
 ghost use Rattle.std.specs.Int.Bits.{bit_or};
 ghost use Rattle.masks.specs.Masks.{◌is_in◌, Below, With, Without, Lowest, Apart};

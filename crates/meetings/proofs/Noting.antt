@@ -2,16 +2,15 @@
 use mathlib.Core.Bool.{true, false, ◌&&◌, ◌||◌, or-true, or-false, true≢false}
 use mathlib.Core.List.{List}
 use mathlib.Core.Logic.{inl, inr, ◌≢◌}
-use mathlib.Core.Path.{◌≡◌, refl, sym, ap, ◌∙◌}
-use native.Mathlib.Numerals.{add-one}
+use mathlib.Core.Path.{◌≡◌, refl, sym, ◌∙◌}
 use native.Mathlib.Omega.{arith}
-use Prim.Native.Nat.{ℕ, suc, ◌+◌, ◌*◌, ◌-◌, ◌/◌, ◌%◌, ◌<◌, ◌≤◌}
+use Prim.Native.Nat.{ℕ, ◌+◌, ◌*◌, ◌-◌, ◌/◌, ◌%◌, ◌<◌, ◌≤◌}
 use lib.Dec.{eqb}
 use lib.ListN.{length, get_or, set, length-set}
 use lib.Seq.{get_or-set_same, get_or-set_other}
 use borrow.Author.Tests.{eqb-true, eq-eqb, ne_eqb}
 use Rattle.basics.proofs.Booleans.{both_true, equal?, less?}
-use Rattle.words.specs.Words.{is_in, With}
+use Rattle.words.specs.Words.{With}
 use Rattle.words.proofs.Sets.{none_in}
 use Rattle.conflicts.specs.Cells.{place, met_at, BlockMet}
 use Rattle.meetings.specs.Meetings.{first_of, last_of, is_noted, met_in, Forgotten, Notes, SlotFor, BlockNoted}

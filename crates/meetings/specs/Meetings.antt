@@ -1,7 +1,7 @@
 -- Notes of which operations meet which cells, in an array of 32 slots: 32 words of operations for each slot; then, for
 -- each slot, the first of its cells, the last of them, and which of the eight blocks of operations are noted.
 -- Follows: nothing in the documents. A means: operations with the same cells are in conflict with the same others.
-use Rattle.std.specs.Prelude.{Bool, true, List, ◌≡◌, ℕ, ◌+◌, ◌*◌, ◌/◌, ◌%◌, ◌<◌, ◌≤◌, length, get_or}
+use Rattle.std.specs.Prelude.{Bool, true, List, ◌≡◌, ℕ, ◌+◌, ◌*◌, ◌/◌, ◌%◌, ◌<◌, length, get_or}
 use Rattle.words.specs.Words.{is_in}
 use Rattle.conflicts.specs.Cells.{place, met_at}
 

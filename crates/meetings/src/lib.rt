@@ -1,5 +1,6 @@
 // Which operations meet the cells of an operation, noted so that the same cells are not looked for twice.
 #![tactic(auto)]
+
 ghost use Rattle.std.specs.Prelude.{true, ◌&&◌, ◌≡◌, ◌+◌, ◌*◌, ◌<◌, eqb, length, get_or};
 ghost use Rattle.meetings.specs.Meetings.{Forgotten, Notes, SlotFor, BlockNoted};
 

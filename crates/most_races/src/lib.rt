@@ -1,5 +1,6 @@
 // The trace with the most races: 1,024 operations of 16 workers in turn, all of which write the same cell.
 #![tactic(auto)]
+
 use compare_records::TABLE;
 use outcomes::{Answer, SEEN};
 

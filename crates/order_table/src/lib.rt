@@ -1,5 +1,6 @@
 // The order table of a file, written to a lent table.
 #![tactic(auto)]
+
 ghost use Rattle.trace.specs.Premises.{HoldsTrace};
 ghost use Rattle.trace.specs.Reading.{trace_of};
 ghost use Rattle.index.specs.Steps.{Handed};

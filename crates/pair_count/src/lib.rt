@@ -1,5 +1,6 @@
 // The pairs of operations of two workers, counted.
 #![tactic(auto)]
+
 ghost use Rattle.std.specs.Prelude.{◌≡◌};
 ghost use Rattle.trace.specs.Reading.{reads, file_reading, trace_of};
 ghost use Rattle.pair_count.specs.Pairs.{pair_count};

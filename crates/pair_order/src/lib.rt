@@ -1,5 +1,6 @@
 // The order of two operations of a file's trace.
 #![tactic(auto)]
+
 ghost use Rattle.std.specs.Prelude.{true, false, ◌≢◌, ◌≡◌, ◌<◌};
 ghost use Rattle.trace.specs.Reading.{trace_of};
 ghost use Rattle.runs.specs.Workers.{earlier};

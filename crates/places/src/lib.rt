@@ -1,6 +1,7 @@
 // Operations by the index: a worker's next one, the lowest that is left, how many come before one. For the crates
 // above, which have read the file and filled its index before.
 #![tactic(auto)]
+
 ghost use Rattle.std.specs.Prelude.{◌≡◌, ℕ, ◌+◌, ◌<◌, ◌≤◌, get_or};
 ghost use Rattle.runs.specs.Workers.{earlier};
 ghost use Rattle.trace.specs.Trace.{Trace, worker_of};

@@ -83,14 +83,7 @@ over_none t old = rw (below-start t)
 
 -- where the loop stands: the `at` races whose lower operation is below a are written, and, unless none is to be
 -- written, the search by rows has come to a
-pub record RowsDone (bytes table : List ℕ) (count : ℕ) : Type 0 where
-  pub a : ℕ
-  pub at : ℕ
-  pub cells : List ℕ
-  pub next : List ℕ
-  pub kept : List ℕ
-  pub seen : List ℕ
-  pub row : List ℕ
+pub record RowsDone (bytes table : List ℕ) (count a at : ℕ) (cells next kept seen row : List ℕ) : Type 0 where
   pub below : a ≤ size (trace_of bytes)
   pub few : at ≤ count
   pub counts : at ≡ length (races_below (trace_of bytes) a)
@@ -114,16 +107,10 @@ below-front t a l =
 
 module _ {bytes table : List ℕ} {count : ℕ} (can : Writable bytes table count) where
   -- nothing is written, and the arrays hold zeros
-  abbrev pub rows-first : RowsDone bytes table count
+  pub rows-first : RowsDone bytes table count 0 0 (replicate cells_length 0) (replicate next_length 0)
+      (replicate kept_length 0) (replicate seen_length 0) (replicate row_length 0)
   rows-first =
       record {
-        a = 0;
-        at = 0;
-        cells = replicate cells_length 0;
-        next = replicate next_length 0;
-        kept = replicate kept_length 0;
-        seen = replicate seen_length 0;
-        row = replicate row_length 0;
         below = omega arith;
         few = omega arith;
         counts = sym (ap length (below-start (trace_of bytes)));
@@ -133,77 +120,72 @@ module _ {bytes table : List ℕ} {count : ℕ} (can : Writable bytes table coun
             (length-replicate {A = ℕ} seen_length 0) (length-replicate {A = ℕ} row_length 0);
       }
 
-  module _ (old : List Race) (room : count ≤ length old) (d : RowsDone bytes table count) where
+  module _ {a at : ℕ} {cells next kept seen row : List ℕ} (old : List Race) (room : count ≤ length old)
+      (d : RowsDone bytes table count a at cells next kept seen row) where
     abbrev t : Trace
     t = trace_of bytes
 
-    written_below : Written d.at (races_below t d.a) old (rows_over t old d.a)
+    written_below : Written at (races_below t a) old (rows_over t old a)
     written_below = written-by (sym d.counts) (omega (arith, d.few)) refl
 
     -- the list is as long as before
-    pub over-length : length (rows_over t old d.a) ≡ length old
+    pub over-length : length (rows_over t old a) ≡ length old
     over-length = written_below.size
 
     -- ---- the end: all that are to be written are written
 
-    pub rows-over : count ≤ d.at → rows_over t old d.a ≡ listed t old count
+    pub rows-over : count ≤ at → rows_over t old a ≡ listed t old count
     rows-over l =
-        let e : count ≡ length (races_below t d.a) = omega (arith, d.few, d.counts) in
-        rw (e, below-front t d.a d.below)
+        let e : count ≡ length (races_below t a) = omega (arith, d.few, d.counts) in
+        rw (e, below-front t a d.below)
 
     -- ---- a row more
 
-    module _ (less : d.at < count) where
+    module _ (less : at < count) where
       all : count ≡ race_count t
       all = can.all (omega arith)
 
-      pub rows_inside : d.a < size t
-      rows_inside = elim (equal? d.a (size t)) [
+      pub rows_inside : a < size t
+      rows_inside = elim (equal? a (size t)) [
         | inl e ↦
-            let last : length (races_below t d.a) ≡ race_count t = rw e (ap length (below_all t)) in
+            let last : length (races_below t a) ≡ race_count t = rw e (ap length (below_all t)) in
             absurd (omega (arith, all, d.counts, last))
         | inr n ↦ omega (arith, n, d.below)
       ]
 
-      pub rows-ask : RowsAt bytes table d.a d.cells d.next d.kept d.seen d.row × (d.a < size t)
+      pub rows-ask : RowsAt bytes table a cells next kept seen row × (a < size t)
       rows-ask = (d.ready (omega arith), rows_inside)
 
-      pub lower-short : d.a < 65535
+      pub lower-short : a < 65535
       lower-short = omega (arith, rows_inside, table-short (can.holds (omega arith)))
 
-      module _ {found : ℕ} {row : List ℕ} (r : RowHolds (race_row t d.a) found row) where
-        pub row_few : d.at + found ≤ count
+      module _ {found : ℕ} {row' : List ℕ} (r : RowHolds (race_row t a) found row') where
+        pub row_few : at + found ≤ count
         row_few =
-            omega (arith, all, d.counts, below-count t d.a, row_count r, below-few t (suc d.a) rows_inside)
+            omega (arith, all, d.counts, below-count t a, row_count r, below-few t (suc a) rows_inside)
 
-        pub row_fits : (d.at + found ≤ length (rows_over t old d.a)) × (found ≤ length row)
+        pub row_fits : (at + found ≤ length (rows_over t old a)) × (found ≤ length row')
         row_fits = (omega (arith, row_few, over-length), omega (arith, r.few, r.long))
 
-        pub row-over : rowed (rows_over t old d.a) d.at d.a row found ≡ rows_over t old (d.a + 1)
+        pub row-over : rowed (rows_over t old a) at a row' found ≡ rows_over t old (a + 1)
         row-over =
-            let races = map (pair d.a) in
-            let long : length (races (race_row t d.a)) ≡ found =
-            length-map (race_row t d.a) (pair d.a) ∙ row_count r in
-            let front : take found (races row) ≡ races (race_row t d.a) =
-            rw (← r.front) (take-races d.a found row) in
+            let races = map (pair a) in
+            let long : length (races (race_row t a)) ≡ found =
+            length-map (race_row t a) (pair a) ∙ row_count r in
+            let front : take found (races row') ≡ races (race_row t a) =
+            rw (← r.front) (take-races a found row') in
             let more =
-            pasted-written (races row) (races (race_row t d.a)) written_below long front (omega (arith, row_few)) in
-            rw (add-one, below_next t d.a) more.whole
+            pasted-written (races row') (races (race_row t a)) written_below long front (omega (arith, row_few)) in
+            rw (add-one, below_next t a) more.whole
 
-        abbrev pub row_done : (cells next kept seen : List ℕ)
-            → RowsAt bytes table (d.a + 1) cells next kept seen row → RowsDone bytes table count
-        row_done cells next kept seen ready =
+        pub row_done : {cells' next' kept' seen' : List ℕ}
+            → RowsAt bytes table (a + 1) cells' next' kept' seen' row'
+            → RowsDone bytes table count (a + 1) (at + found) cells' next' kept' seen' row'
+        row_done ready =
             record {
-              a = d.a + 1;
-              at = d.at + found;
-              cells = cells;
-              next = next;
-              kept = kept;
-              seen = seen;
-              row = row;
               below = omega (arith, rows_inside);
               few = row_few;
-              counts = rw add-one (omega (arith, d.counts, below-count t d.a, row_count r));
+              counts = rw add-one (omega (arith, d.counts, below-count t a, row_count r));
               ready = λ _. ready;
             }
 

@@ -1,5 +1,6 @@
 // The races of a file's trace, written to a lent list of race records.
 #![tactic(auto)]
+
 ghost use Rattle.std.specs.Prelude.{map, ◌≡◌, ◌+◌, ◌≤◌, length, take};
 ghost use Rattle.std.proofs.Math.Seq.{paste};
 ghost use Rattle.trace.specs.Reading.{trace_of};

@@ -1,5 +1,6 @@
 // The races of one operation with all later ones, row by row.
 #![tactic(auto)]
+
 ghost use Rattle.std.specs.Prelude.{[], ◌≡◌, ◌+◌, ◌<◌, length};
 ghost use Rattle.trace.specs.Reading.{reads, file_reading, trace_of};
 ghost use Rattle.trace.specs.Trace.{size};

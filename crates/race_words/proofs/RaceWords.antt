@@ -1,14 +1,14 @@
 -- A word of a row of races. In order: the operations after one; the races with one.
 use mathlib.Core.Bool.{Bool, true, false, not, ◌&&◌, ◌||◌, and-false}
 use mathlib.Core.List.{List}
-use mathlib.Core.Logic.{◌⊎◌, inl, inr}
+use mathlib.Core.Logic.{inl, inr}
 use mathlib.Core.Path.{◌≡◌, refl, sym, ap, ◌∙◌}
 use native.Mathlib.Omega.{arith}
 use Prim.Native.Nat.{ℕ, ◌+◌, ◌*◌, ◌-◌, ◌/◌, ◌%◌, ◌<◌, ◌≤◌}
 use lib.Dec.{eqb, ltb}
-use lib.ListN.{length, get_or}
+use lib.ListN.{get_or}
 use borrow.Author.Tests.{ltb-true, lt-ltb, le-ltb, ne_eqb}
-use Rattle.basics.proofs.Booleans.{both_true, less?}
+use Rattle.basics.proofs.Booleans.{less?}
 use Rattle.trace.specs.Trace.{Trace, size, operation}
 use Rattle.words.specs.Words.{is_in, Above, Common}
 use Rattle.words.proofs.Sets.{all_in}

@@ -1,6 +1,7 @@
 // The races of one operation with 32 others at a time: what is unordered with it and in conflict with it, as sets of
 // bits.
 #![tactic(auto)]
+
 ghost use Rattle.std.specs.Prelude.{true, ◌≡◌, ◌/◌, ◌<◌, ◌≤◌, length};
 ghost use Rattle.trace.specs.Reading.{reads, file_reading, trace_of};
 ghost use Rattle.meetings.specs.Meetings.{Notes};

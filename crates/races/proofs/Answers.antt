@@ -115,7 +115,7 @@ pub record LeftToWrite (bytes table : List ℕ) (numbers room count : ℕ) : Typ
 
 module _ {bytes lent now : List ℕ} {room : ℕ} {answer : RacesAnswer} (c : CountCall bytes lent room answer now) where
   pub counts-length : length now ≡ length lent
-  counts-length = rw c.leaves-table (after-length bytes lent)
+  counts-length = rw c.leaves_table (after-length bytes lent)
 
   pub left-to-write : LeftToWrite bytes now (length lent) room (to_write answer)
   left-to-write = go (races_reading bytes (length lent) room) refl
@@ -135,7 +135,7 @@ module _ {bytes lent now : List ℕ} {room : ℕ} {answer : RacesAnswer} (c : Co
           rw (c.answers, answer-by bytes (length lent) room e)
           (record {
             writable = record {
-              holds = λ l. holds_after bytes lent c.leaves-table passed.filled;
+              holds = λ l. holds_after bytes lent c.leaves_table passed.filled;
               all = λ l. rw same;
             };
             fits = passed.list_holds;

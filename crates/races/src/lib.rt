@@ -1,5 +1,6 @@
 // The races of a file's trace, written to two lent lists: their lower operations, and their higher ones.
 #![tactic(auto)]
+
 ghost use Rattle.std.specs.Prelude.{◌≡◌, ◌≤◌, length};
 ghost use Rattle.trace.specs.Premises.{HoldsTrace};
 ghost use Rattle.trace.specs.Reading.{trace_of};

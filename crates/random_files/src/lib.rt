@@ -1,5 +1,6 @@
 // Files of random traces of up to eight operations and four workers, damaged files, and random lists, for tests.
 #![tactic(auto)]
+
 ghost use Rattle.std.specs.Prelude.{◌≤◌};
 
 // The next random number: a multiplicative generator, whose state is from 1 to 2,147,483,646.

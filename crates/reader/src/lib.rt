@@ -1,6 +1,7 @@
 // Reading a trace file: the questions of its header and of its records. Only `read` is called from other crates; it
 // requires nothing.
 #![tactic(auto)]
+
 ghost use Rattle.std.specs.Prelude.{List, ◌≡◌, ◌+◌, ◌≤◌, eqb, length, drop};
 ghost use Rattle.trace.specs.declared.Operation.{Operation};
 ghost use Rattle.trace.specs.Form.{base, record_size};

@@ -1,5 +1,6 @@
 // Writing a record of a trace file. For the crates above, which write files.
 #![tactic(auto)]
+
 ghost use Rattle.std.specs.Prelude.{◌≡◌, ℕ, ◌<◌, length};
 ghost use Rattle.trace.specs.Form.{base, record_size};
 ghost use Rattle.trace.specs.LittleEndian.{digits};

@@ -1,5 +1,6 @@
 // Prints the report of each file that the arguments name, under its name.
 #![tactic(auto)]
+
 use std::env::{Env, FillError};
 use std::fs::File;
 use std::io;

@@ -1,5 +1,6 @@
 // The report of a file, as text in a lent output.
 #![tactic(auto)]
+
 ghost use Rattle.std.specs.Prelude.{◌+◌, ◌*◌, ◌≤◌, length, take};
 ghost use Rattle.race_model.specs.RaceList.{pair};
 ghost use Rattle.races.specs.Races.{race_records, to_write};

@@ -1,6 +1,7 @@
 // Printing the report of what a reader gives. The report itself is made by `report_text`; here is what the system does
 // for it.
 #![tactic(auto)]
+
 ghost use Rattle.std.specs.Prelude.{◌≡◌};
 ghost use Rattle.report_text.specs.ReportText.{report_text};
 

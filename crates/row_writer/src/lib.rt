@@ -1,5 +1,6 @@
 // Writing a row of the order table to its part.
 #![tactic(auto)]
+
 ghost use Rattle.std.specs.Prelude.{◌≡◌, ◌+◌, ◌<◌, ◌≤◌, length, set, take, drop};
 ghost use Rattle.std.proofs.Math.Seq.{paste};
 

@@ -1,6 +1,7 @@
 // Makes the calls on random files of up to eight operations, all but the race list on records and the report, and
 // compares what each answers and what it leaves in lent memory with what all runs say.
 #![tactic(auto)]
+
 use expected::Judgement;
 use outcomes::SEEN;
 

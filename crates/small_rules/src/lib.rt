@@ -1,5 +1,6 @@
 // What may follow what in a run of a trace of up to eight operations, by document 01's definition of a run.
 #![tactic(auto)]
+
 ghost use Rattle.std.specs.Prelude.{◌≤◌};
 
 // A set of operations has a bit for each: whether x is in it.

@@ -3,7 +3,7 @@
 use mathlib.Core.Bool.{not}
 use mathlib.Core.List.{List, [], ◌∷◌}
 use mathlib.Core.Logic.{◌⊎◌, inl, inr, ◌≢◌}
-use mathlib.Core.Path.{◌≡◌, refl, sym, ap, ◌∙◌}
+use mathlib.Core.Path.{◌≡◌, refl, sym, ap, ◌∙◌, subst}
 use native.Mathlib.Numerals.{add-one}
 use native.Mathlib.Omega.{arith}
 use Prim.Native.Nat.{ℕ, ◌+◌, ◌<◌, ◌≤◌}
@@ -53,7 +53,10 @@ shows_more {t} {d} {counts} s {x} low p =
     counted : (q : ℕ) → (q ≡ own) ⊎ (q ≢ own) → get_or (set counts own more) q 0 ≡ count (worker_of t) q (x ∷ d)
     counted q (inl e) =
         let one = count-own (worker_of t) d {x = x} refl in
-        rw (e, get_or-set_same counts own more 0 (omega (arith, s.counters, low)), one, s.counted own, add-one)
+        subst
+        (λ (j : ℕ). get_or (set counts own more) j 0 ≡ count (worker_of t) j (x ∷ d))
+        (sym e)
+        (rw (get_or-set_same counts own more 0 (omega (arith, s.counters, low)), one, s.counted own, add-one))
     counted q (inr n) =
         let none = count-other (worker_of t) d {x = x} (λ e. n (sym e)) in
         rw (get_or-set_other counts own q more 0 n, none) (s.counted q)

@@ -4,6 +4,7 @@
 // Of the run at hand, next[q] is the first operation of worker q that is not in it, or the operation count where all of
 // them are; posted[e] says whether a Post of event e is in it.
 #![tactic(auto)]
+
 use outcomes::Answer;
 
 // The empty run.

@@ -1,5 +1,6 @@
 // Writing the rows of the order table of an accepted file.
 #![tactic(auto)]
+
 ghost use Rattle.std.specs.Prelude.{◌≡◌, ℕ, ◌<◌, ◌≤◌, length, set, take};
 ghost use Rattle.trace.specs.Reading.{trace_of};
 ghost use Rattle.walk.specs.Going.{Sized, Walked};

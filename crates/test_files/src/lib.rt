@@ -1,5 +1,6 @@
 // How the bytes of a trace file lie, and writing them for tests.
 #![tactic(auto)]
+
 ghost use Rattle.std.specs.Prelude.{◌≤◌};
 
 // The kinds of operations.

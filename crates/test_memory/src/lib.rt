@@ -1,5 +1,6 @@
 // Memory that is lent for a test: what it holds before a call, and after it; lists of races; numbers and sizes.
 #![tactic(auto)]
+
 ghost use Rattle.std.specs.Prelude.{◌≤◌};
 
 // What lent memory holds before a call; no call writes such numbers.

@@ -2,6 +2,7 @@
 // The functions with a `requires` are for the crates above: the reader, which asks a file's questions of its header and
 // its records, and the crates that have had a file read before.
 #![tactic(auto)]
+
 ghost use Rattle.std.specs.Prelude.{◌≡◌, ◌+◌, ◌≤◌, ◌<◌, length, drop};
 ghost use Rattle.trace.specs.Form.{base, record_size, start};
 ghost use Rattle.trace.specs.LittleEndian.{value};

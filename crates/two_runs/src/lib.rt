@@ -1,5 +1,6 @@
 // Two complete runs of a file's trace for a pair of operations that is not ordered, written to two lent buffers.
 #![tactic(auto)]
+
 ghost use Rattle.std.specs.Prelude.{false, ◌≡◌, ◌<◌, ◌≤◌, length, take};
 ghost use Rattle.trace.specs.Reading.{trace_of};
 ghost use Rattle.model.specs.Computed.{must_precede_in};

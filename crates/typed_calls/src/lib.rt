@@ -1,5 +1,6 @@
 // The calls that typed cases make; what their lines say is told at the head of `typed_cases`.
 #![tactic(auto)]
+
 use case_files::FILE;
 use case_lines::Line;
 use outcomes::{Answer, SEEN};

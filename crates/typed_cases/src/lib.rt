@@ -28,6 +28,7 @@
 //   first, second                  from which place on; numbers of the first and of the second buffer or list
 //   written                        from which place on; bytes of the output
 #![tactic(auto)]
+
 use case_files::FILE;
 use case_lines::Line;
 use outcomes::SEEN;

@@ -1,19 +1,18 @@
 -- The state before the first operation. In order: setting the ends; the state.
-use mathlib.Core.Bool.{Bool, true, false, ◌&&◌}
+use mathlib.Core.Bool.{false}
 use mathlib.Core.List.{List}
-use mathlib.Core.Logic.{◌⊎◌, inl, inr, ◌≢◌}
+use mathlib.Core.Logic.{inl, inr, ◌≢◌}
 use mathlib.Core.Path.{◌≡◌, refl, sym, ap, ◌∙◌}
 use native.Mathlib.Omega.{arith}
 use Prim.Native.Nat.{ℕ, ◌+◌, ◌*◌, ◌/◌, ◌%◌, ◌-◌, ◌<◌, ◌≤◌}
-use lib.Dec.{leb, ltb}
-use lib.ListN.{length, get_or, set, length-set}
+use lib.Dec.{leb}
+use lib.ListN.{get_or, set, length-set}
 use lib.Seq.{get_or-set_same, get_or-set_other}
 use borrow.Author.Tests.{le-ltb, lt-leb, eq-eqb, ne_eqb}
 use Rattle.basics.proofs.Booleans.{equal?, less?}
 use Rattle.trace.specs.Reading.{reads, file_reading, trace_of}
 use Rattle.trace.specs.Trace.{Trace, size, worker_of}
 use Rattle.trace.proofs.Answers.{file-holds}
-use Rattle.words.specs.Words.{is_in}
 use Rattle.words.proofs.Sets.{in-past}
 use Rattle.unordered.specs.Beginning.{Zeros, ReadFrom, first_end, EndsSet}
 use Rattle.unordered.specs.Kept.{held, low_of, high_of, between, Ends, Kept, Carried}

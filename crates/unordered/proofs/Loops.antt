@@ -2,20 +2,20 @@
 use mathlib.Core.Bool.{true, false}
 use mathlib.Core.List.{List}
 use mathlib.Core.Logic.{inl, inr, ◌≢◌}
-use mathlib.Core.Path.{◌≡◌, sym, ap, ◌∙◌}
+use mathlib.Core.Path.{◌≡◌, sym, ◌∙◌}
 use native.Mathlib.Omega.{arith}
-use Prim.Native.Nat.{ℕ, ◌+◌, ◌*◌, ◌/◌, ◌%◌, ◌<◌, ◌≤◌}
-use lib.ListN.{length, get_or, set, length-set}
-use lib.Seq.{get_or-set_same, get_or-set_other}
+use Prim.Native.Nat.{ℕ, ◌+◌, ◌*◌, ◌/◌, ◌<◌, ◌≤◌}
+use lib.ListN.{get_or, set, length-set}
+use lib.Seq.{get_or-set_same}
 use Rattle.basics.proofs.Booleans.{equal?, less?}
 use Rattle.trace.specs.Reading.{trace_of}
 use Rattle.trace.specs.Trace.{Trace, size}
 use Rattle.model.specs.Computed.{must_precede_in}
-use Rattle.unordered.specs.Kept.{IsOf, NextAt, low_of, high_of, rank_at, Ends, Kept}
+use Rattle.unordered.specs.Kept.{IsOf, low_of, high_of, rank_at, Ends, Kept}
 use Rattle.unordered.specs.Turns.{TakenOne, LetOne, Place, Ahead, Settled, Turn, OtherRanks}
 use Rattle.table_entries.specs.Entries.{Inside}
 use Rattle.unordered.proofs.Ends.{of-few, end-few, low-inside, high-inside}
-use Rattle.unordered.proofs.Entries.{rank-inside, rank-past, rank_below, place-given, place-limits}
+use Rattle.unordered.proofs.Entries.{rank-inside, rank_below, place-given, place-limits}
 use Rattle.unordered.proofs.Entries.{place_inside, place-next}
 use Rattle.unordered.proofs.Entries.{after-certain, after-uncertain, before-certain, before-uncertain}
 use Rattle.unordered.proofs.Order.{certain-on, uncertain-on}

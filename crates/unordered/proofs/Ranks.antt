@@ -1,18 +1,17 @@
 -- The ranks that are kept beside the ends. In order: the others, where one pair of ends moved; those of a pair stored.
 use mathlib.Core.List.{List}
-use mathlib.Core.Logic.{◌⊎◌, inl, inr, ◌≢◌}
-use mathlib.Core.Path.{◌≡◌, sym, ap, ◌∙◌}
+use mathlib.Core.Logic.{inl, inr, ◌≢◌}
+use mathlib.Core.Path.{◌≡◌, ◌∙◌}
 use native.Mathlib.Omega.{arith}
-use Prim.Native.Nat.{ℕ, ◌+◌, ◌*◌, ◌/◌, ◌%◌, ◌<◌, ◌≤◌}
+use Prim.Native.Nat.{ℕ, ◌+◌, ◌*◌, ◌/◌, ◌<◌, ◌≤◌}
 use lib.ListN.{length, get_or, set, length-set}
 use lib.Seq.{get_or-set_same, get_or-set_other}
 use Rattle.basics.proofs.Booleans.{equal?}
 use Rattle.trace.specs.Reading.{trace_of}
-use Rattle.trace.specs.Trace.{Trace, size, worker_of}
-use Rattle.words.specs.Words.{is_in}
-use Rattle.unordered.specs.Kept.{IsOf, held, low_of, high_of, rank_at, due_of, gone_of, between, Ends, Kept}
+use Rattle.trace.specs.Trace.{Trace}
+use Rattle.unordered.specs.Kept.{IsOf, held, low_of, high_of, rank_at, due_of, gone_of}
 use Rattle.unordered.specs.Kept.{Ranks, AllRanks}
-use Rattle.unordered.specs.Turns.{Place, Settled, Turn, OtherRanks}
+use Rattle.unordered.specs.Turns.{Place, Turn, OtherRanks}
 use Rattle.unordered.proofs.Ends.{of-few}
 use Rattle.unordered.proofs.Entries.{place-given, place-limits}
 use Rattle.unordered.proofs.Order.{Given}

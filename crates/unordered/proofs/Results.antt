@@ -6,13 +6,12 @@ use mathlib.Core.Path.{◌≡◌, refl, sym, ap, ◌∙◌}
 use native.Mathlib.Omega.{arith}
 use Prim.Native.Nat.{ℕ, ◌+◌, ◌<◌, ◌≤◌}
 use lib.Dec.{eqb, leb, ltb}
-use lib.ListN.{get_or}
 use borrow.Author.Tests.{lt-ltb, le-ltb, le-leb, lt-leb, eq-eqb, ne_eqb}
 use Rattle.basics.proofs.Booleans.{equal?, less?}
 use Rattle.trace.specs.Reading.{trace_of}
 use Rattle.trace.specs.Trace.{Trace, size, worker_of}
 use Rattle.model.specs.Computed.{must_precede_in, unordered_in}
-use Rattle.unordered.specs.Kept.{IsOf, held, low_of, high_of, between, Ends, Kept, AllRanks}
+use Rattle.unordered.specs.Kept.{IsOf, held, low_of, between, Ends, Kept, AllRanks}
 use Rattle.unordered.specs.Kept.{Carried, Now}
 use Rattle.unordered.specs.Turns.{Place, Settled, Turn}
 use Rattle.unordered.proofs.Ends.{of-few}

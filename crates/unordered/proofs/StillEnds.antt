@@ -6,14 +6,13 @@ use mathlib.Core.Path.{◌≡◌, refl}
 use native.Mathlib.Numerals.{add-one}
 use native.Mathlib.Omega.{arith}
 use Prim.Native.Nat.{ℕ, zero, suc, ◌+◌, ◌*◌, ◌<◌, ◌≤◌}
-use lib.Bits.{bit_and, bit_or, and_le_l, and_le_r, or_add_and}
+use lib.Bits.{bit_or, and_le_l, and_le_r, or_add_and}
 use lib.Dec.{leb, ltb}
 use lib.ListN.{get_or}
 use borrow.Author.Tests.{ltb-false, leb-false}
 use mir.Val.{bool_byte}
 use Rattle.basics.proofs.Booleans.{equal?}
 use Rattle.trace.specs.Reading.{trace_of}
-use Rattle.trace.specs.Trace.{size}
 use Rattle.unordered.specs.Kept.{low_of, high_of, rank_at, due_of, gone_of, Carried}
 use Rattle.unordered.specs.Turns.{Place, Turn, Still, AllStill, moves_bit}
 use Rattle.unordered.proofs.Ends.{of-few}

@@ -1,8 +1,8 @@
 -- Operations taken in and let out. In order: a state with one pair of ends moved; an operation taken in, one let out.
 use mathlib.Core.Bool.{Bool, true, false, not, ◌&&◌, ◌||◌}
 use mathlib.Core.List.{List}
-use mathlib.Core.Logic.{◌⊎◌, inl, inr, ◌≢◌}
-use mathlib.Core.Path.{◌≡◌, refl, sym, ap, ◌∙◌}
+use mathlib.Core.Logic.{inl, inr, ◌≢◌}
+use mathlib.Core.Path.{◌≡◌, sym, ap, ◌∙◌}
 use native.Mathlib.Omega.{arith}
 use Prim.Native.Nat.{ℕ, ◌+◌, ◌*◌, ◌/◌, ◌%◌, ◌<◌, ◌≤◌}
 use lib.Dec.{eqb}
@@ -13,7 +13,7 @@ use Rattle.basics.proofs.Booleans.{equal?}
 use Rattle.trace.specs.Trace.{Trace, size, worker_of}
 use Rattle.model.specs.Computed.{must_precede_in}
 use Rattle.words.specs.Words.{With, Without}
-use Rattle.unordered.specs.Kept.{IsOf, NextAt, held, low_of, high_of, between, Ends, Kept}
+use Rattle.unordered.specs.Kept.{IsOf, NextAt, held, low_of, high_of, between, Ends}
 use Rattle.unordered.specs.Turns.{Turn}
 use Rattle.unordered.proofs.Ends.{of-few, more-ends, less-ends, between_more, between-less}
 use Rattle.unordered.proofs.HeldBits.{or-false, and-true, held-elsewhere, held_with, held-without}

@@ -3,6 +3,7 @@
 // worker w, word 512 + 16 * w + q its high end for q, and word 768 + 16 * w + q its low one. The ranks of both stand in
 // words 1024 + 16 * w + q and 1280 + 16 * w + q, and tell for all q whether an end has to move.
 #![tactic(auto)]
+
 ghost use Rattle.std.specs.Prelude.{◌≡◌, List, ℕ, ◌+◌, ◌<◌, length};
 ghost use Rattle.trace.specs.Reading.{reads, file_reading, trace_of};
 ghost use Rattle.trace.specs.Trace.{size};

@@ -1,6 +1,7 @@
 // Walks by a set of ready workers, along each worker's list of Posts and Waits. For the crates above, which have read
 // the file and filled its index before.
 #![tactic(auto)]
+
 ghost use Rattle.std.specs.Prelude.{true, false, not, ◌&&◌, ◌≡◌, ℕ, ◌+◌, ◌%◌, ◌<◌, ◌≤◌, length, get_or, set};
 ghost use Rattle.events.specs.Events.{is_posted, with_post};
 ghost use Rattle.masks.specs.Masks.{Below, Lowest};

@@ -1,10 +1,9 @@
 -- A set listed. In order: a byte of it, number by number, for the loop of `list_byte`; all of it, byte by byte, for the
 -- loop of `list`.
-use mathlib.Core.List.{List, [], ◌∷◌, ◌++◌, map, map-append, append-nil, append_assoc}
+use mathlib.Core.List.{List, [], ◌∷◌, ◌++◌, map-append, append-nil, append_assoc}
 use mathlib.Core.Logic.{inl, inr}
 use mathlib.Core.Path.{◌≡◌, refl, sym, ap, ◌∙◌}
 use native.Mathlib.Nat.{add_assoc, add-suc, add-zero}
-use native.Mathlib.Numerals.{add-one}
 use native.Mathlib.Omega.{arith}
 use Prim.Native.Nat.{ℕ, suc, ◌+◌, ◌/◌, ◌%◌, ◌^◌, ◌<◌, ◌≤◌}
 use lib.ListN.{length, get_or, set, take, length-set, length-append, length-map}
@@ -12,7 +11,7 @@ use lib.Seq.{take-length, take-suc, take-suc-set, take-set-le}
 use Rattle.basics.proofs.Booleans.{less?}
 use Rattle.words.specs.Passing.{passing}
 use Rattle.words.specs.Words.{is_in, raised}
-use Rattle.words.proofs.Passing.{passing-none, passing-zero, passing-few, passing-agree, passing-raised}
+use Rattle.words.proofs.Passing.{passing-none, passing-few, passing-agree, passing-raised}
 use Rattle.words.proofs.Sets.{cut_in, none_in, shifted_in}
 use Rattle.word_lists.specs.Lists.{Room, ByteRoom, Listed}
 

@@ -1,5 +1,6 @@
 // The numbers of a set listed, eight bits of its word at a time: those of each byte are known beforehand.
 #![tactic(auto)]
+
 ghost use Rattle.std.specs.Prelude.{◌≡◌, ◌+◌, ◌<◌, ◌≤◌, length, get_or};
 ghost use Rattle.words.specs.Passing.{passing};
 ghost use Rattle.words.specs.Words.{is_in};

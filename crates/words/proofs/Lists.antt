@@ -1,7 +1,7 @@
 -- A set listed, number by number: the loop of `list`.
 use mathlib.Core.Bool.{Bool, true, false}
-use mathlib.Core.List.{List, [], ◌∷◌, ◌++◌, map-append, append-nil, append_assoc}
-use mathlib.Core.Path.{◌≡◌, refl, sym, ap, ◌∙◌}
+use mathlib.Core.List.{List, [], ◌++◌, map-append, append-nil, append_assoc}
+use mathlib.Core.Path.{◌≡◌, refl, sym, ◌∙◌}
 use native.Mathlib.Nat.{add-zero}
 use native.Mathlib.Numerals.{add-one}
 use native.Mathlib.Omega.{arith}
@@ -11,7 +11,7 @@ use lib.Seq.{take-suc-set, take-set-le}
 use mir.Val.{bool_byte}
 use Rattle.words.specs.Passing.{passing}
 use Rattle.words.specs.Words.{is_in, raised, Room, Listed}
-use Rattle.words.proofs.Passing.{passing-more, passing-same, passing-none, passing-count, passing-zero}
+use Rattle.words.proofs.Passing.{passing-more, passing-same, passing-none, passing-count}
 use Rattle.words.proofs.Sets.{in-bit, none_in}
 
 -- the numbers of x below i are listed

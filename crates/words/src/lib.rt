@@ -1,5 +1,6 @@
 // Sets of the numbers below 32: i is in the set where bit i of the word is 1.
 #![tactic(auto)]
+
 ghost use Rattle.std.specs.Prelude.{◌<◌, ◌≡◌, length};
 ghost use Rattle.words.specs.Passing.{passing};
 ghost use Rattle.words.specs.Words.{is_in, With, Without, Common, Joined, Above, Room, Listed};

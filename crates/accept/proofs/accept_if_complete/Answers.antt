@@ -1,6 +1,5 @@
 -- `accept_if_complete` meets its contract. Assumes nothing.
 use native.Mathlib.Omega.{arith}
-use borrow.Author.Rules.{rules}
 use Rattle.trace.proofs.Fitting.{trace-fits}
 use Rattle.trace.specs.Reading.{trace_of}
 use Rattle.accept.proofs.Accepting.{handed-opens}

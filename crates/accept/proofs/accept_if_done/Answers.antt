@@ -1,6 +1,5 @@
 -- `accept_if_done` meets its contract. Assumes nothing.
 use mathlib.Core.Path.{sym, ◌∙◌}
-use borrow.Author.Rules.{rules}
 use Rattle.trace.specs.Reading.{trace_of}
 use Rattle.index.proofs.Lookups.{holds-places}
 use Rattle.accept.proofs.Accepting.{parts-few, done-place, answer-refused, answer-accepted}

@@ -1,6 +1,5 @@
 -- `accept_index` meets its contract. Assumes nothing.
 use mathlib.Core.Path.{sym, ◌∙◌}
-use borrow.Author.Rules.{rules}
 use Rattle.reader.proofs.Answers.{answer-holds, answer-refused}
 use Rattle.accept.proofs.Accepting.{answer-unread}
 use Rattle.accept.proofs.accept_index.Goals as goal

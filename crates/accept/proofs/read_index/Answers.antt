@@ -1,6 +1,5 @@
 -- `read_index` meets its contract. Assumes nothing.
 use mathlib.Core.Path.{sym, ◌∙◌}
-use borrow.Author.Rules.{rules}
 use Rattle.reader.proofs.Answers.{answer-holds, answer-refused}
 use Rattle.accept.proofs.Accepting.{unread-handed}
 use Rattle.accept.proofs.read_index.Goals as goal

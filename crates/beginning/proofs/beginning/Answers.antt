@@ -4,13 +4,11 @@
 use mathlib.Core.Path.{◌≡◌, ap, sym, ◌∙◌}
 use native.Mathlib.Omega.{arith}
 use Prim.Native.Nat.{ℕ, ◌≤◌}
-use borrow.Author.Rules.{rules}
 use Rattle.beginning.specs.declared.Prefix.TheVariants.{OfFirst}
 use Rattle.beginning.proofs.Beginnings.{prefix-fits, call-first, call-second}
 use Rattle.beginning.proofs.beginning.Goals as goal
 
 none_left : (n : ℕ) → n ≤ 0 → n ≡ 0
-
 none_left n l = omega (arith, l)
 
 pub slice_bounds-result-end : goal.slice_bounds-result-end

@@ -3,9 +3,6 @@
 use mathlib.Core.Path.{sym, ◌∙◌}
 use native.Mathlib.Omega.{arith}
 use Prim.Native.Nat.{◌-◌}
-use lib.ListN.{length}
-use borrow.Author.Rules.{rules}
-use Rattle.beginning.specs.Searched.{Searched}
 use Rattle.beginning.proofs.Lengths.{searched-all, searched-other, searched-past, searched-more}
 use Rattle.beginning.proofs.Lengths.{searched-found, searched-without}
 use Rattle.beginning.proofs.beginning_length.Goals as goal

@@ -1,13 +1,8 @@
 -- `beginning_length` meets its contract: neither number appears in the first i numbers.
 -- Assumes nothing.
-use mathlib.Core.Path.{sym, ◌∙◌}
-use native.Mathlib.Omega.{arith}
 use Prim.Native.Nat.{◌-◌}
 use lib.ListN.{length}
-use borrow.Author.Rules.{rules}
 use Rattle.beginning.specs.Searched.{Searched}
-use Rattle.beginning.proofs.Lengths.{searched-all, searched-other, searched-past, searched-more}
-use Rattle.beginning.proofs.Lengths.{searched-found, searched-without}
 use Rattle.beginning.proofs.beginning_length.Given as goal
 
 abbrev pub invariant-loop-i : goal.invariant-loop-i

@@ -1,12 +1,8 @@
 -- `eight_free` meets its contract: where the first i of the eight are free, neither number appears before at + i.
 -- Assumes nothing.
-use mathlib.Core.Bool.{true}
-use mathlib.Core.Path.{◌≡◌}
 use native.Mathlib.Nat.{add-zero}
 use native.Mathlib.Omega.{arith}
-use Prim.Native.Nat.{◌+◌, ◌-◌, ◌≤◌}
-use borrow.Author.Rules.{rules}
-use Rattle.beginning.specs.Searched.{Searched}
+use Prim.Native.Nat.{◌+◌, ◌-◌}
 use Rattle.beginning.proofs.Lengths.{eight-more, eight-all}
 use Rattle.beginning.proofs.eight_free.Goals as goal
 

@@ -2,12 +2,8 @@
 -- Assumes nothing.
 use mathlib.Core.Bool.{true}
 use mathlib.Core.Path.{◌≡◌}
-use native.Mathlib.Nat.{add-zero}
-use native.Mathlib.Omega.{arith}
 use Prim.Native.Nat.{◌+◌, ◌-◌, ◌≤◌}
-use borrow.Author.Rules.{rules}
 use Rattle.beginning.specs.Searched.{Searched}
-use Rattle.beginning.proofs.Lengths.{eight-more, eight-all}
 use Rattle.beginning.proofs.eight_free.Given as goal
 
 abbrev pub invariant-loop-i : goal.invariant-loop-i

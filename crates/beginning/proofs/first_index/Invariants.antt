@@ -1,11 +1,8 @@
 -- `first_index` meets its contract: x does not appear in the first i numbers.
 -- Assumes nothing.
-use mathlib.Core.Path.{sym, ◌∙◌}
 use Prim.Native.Nat.{◌-◌, ◌≤◌}
 use lib.ListN.{length}
-use borrow.Author.Rules.{rules}
 use Rattle.beginning.specs.Computed.{first_index}
-use Rattle.beginning.proofs.Indices.{index-later, index-here, index-none}
 use Rattle.beginning.proofs.first_index.Given as goal
 
 abbrev pub invariant-loop-i : goal.invariant-loop-i

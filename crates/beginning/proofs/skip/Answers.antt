@@ -2,9 +2,6 @@
 -- Assumes nothing.
 use native.Mathlib.Omega.{arith}
 use Prim.Native.Nat.{◌-◌}
-use lib.ListN.{length}
-use borrow.Author.Tests.{not-false}
-use Rattle.beginning.specs.Searched.{Searched}
 use Rattle.beginning.proofs.Indices.{index-fits}
 use Rattle.beginning.proofs.skip.Goals as goal
 

@@ -1,11 +1,8 @@
 -- `skip` meets its contract: neither number appears before `at`.
 -- Assumes nothing.
-use native.Mathlib.Omega.{arith}
 use Prim.Native.Nat.{◌-◌}
 use lib.ListN.{length}
-use borrow.Author.Tests.{not-false}
 use Rattle.beginning.specs.Searched.{Searched}
-use Rattle.beginning.proofs.Indices.{index-fits}
 use Rattle.beginning.proofs.skip.Given as goal
 
 abbrev pub invariant-loop-at : goal.invariant-loop-at

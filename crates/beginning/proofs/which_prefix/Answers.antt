@@ -1,6 +1,5 @@
 -- `which_prefix` meets its contract.
 -- Assumes nothing.
-use borrow.Author.Rules.{rules}
 use Rattle.beginning.proofs.Beginnings.{prefix-first, prefix-second, prefix-neither}
 use Rattle.beginning.proofs.which_prefix.Goals as goal
 

@@ -1,6 +1,5 @@
 -- `mersohki_accept` meets its contract: the struct of what the call answers. Assumes nothing.
 use mathlib.Core.Path.{ap, ◌∙◌}
-use borrow.Author.Rules.{rules}
 use Rattle.c_results.specs.Results.{accept_result}
 use Rattle.capi.proofs.mersohki_accept.Goals as goal
 

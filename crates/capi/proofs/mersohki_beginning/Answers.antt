@@ -1,6 +1,5 @@
 -- `mersohki_beginning` meets its contract: the struct of what the call answers. Assumes nothing.
 use mathlib.Core.Path.{ap, ◌∙◌}
-use borrow.Author.Rules.{rules}
 use Rattle.c_results.specs.Results.{beginning_result}
 use Rattle.capi.proofs.mersohki_beginning.Goals as goal
 

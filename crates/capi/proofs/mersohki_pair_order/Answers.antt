@@ -1,6 +1,5 @@
 -- `mersohki_pair_order` meets its contract: the struct of what the call answers. Assumes nothing.
 use mathlib.Core.Path.{ap, ◌∙◌}
-use borrow.Author.Rules.{rules}
 use Rattle.c_results.specs.Results.{order_result}
 use Rattle.capi.proofs.mersohki_pair_order.Goals as goal
 

@@ -1,7 +1,6 @@
 -- `mersohki_races` meets its contract: the struct of what the call answers, and what the call leaves.
 -- Assumes nothing.
 use mathlib.Core.Path.{ap, ◌∙◌}
-use borrow.Author.Rules.{rules}
 use Rattle.c_results.specs.Results.{races_result}
 use Rattle.capi.proofs.mersohki_races.Goals as goal
 

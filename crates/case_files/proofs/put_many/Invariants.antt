@@ -1,6 +1,5 @@
 -- `put_many` is safe and ends. Assumes nothing.
 use Prim.Native.Nat.{◌-◌}
-use borrow.Author.Rules.{rules}
 use Rattle.case_files.proofs.put_many.Given as goal
 
 abbrev pub invariant-loop-i : goal.invariant-loop-i

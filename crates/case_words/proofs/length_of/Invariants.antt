@@ -1,6 +1,5 @@
 -- `length_of` is safe and ends. Assumes nothing.
 use Prim.Native.Nat.{◌-◌}
-use borrow.Author.Rules.{rules}
 use Rattle.case_words.proofs.length_of.Given as goal
 
 abbrev pub invariant-loop-i : goal.invariant-loop-i

@@ -1,6 +1,5 @@
 -- `word_at` is safe and ends. Assumes nothing.
 use Prim.Native.Nat.{◌-◌}
-use borrow.Author.Rules.{rules}
 use Rattle.case_words.proofs.word_at.Given as goal
 
 abbrev pub invariant-loop-word : goal.invariant-loop-word

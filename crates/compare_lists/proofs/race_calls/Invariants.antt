@@ -1,6 +1,5 @@
 -- `race_calls` is safe and ends. Assumes nothing.
 use Prim.Native.Nat.{◌-◌}
-use borrow.Author.Rules.{rules}
 use Rattle.compare_lists.proofs.race_calls.Given as goal
 
 abbrev pub invariant-loop-way : goal.invariant-loop-way

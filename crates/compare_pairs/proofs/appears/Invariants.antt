@@ -1,6 +1,5 @@
 -- `appears` is safe and ends. Assumes nothing.
 use Prim.Native.Nat.{◌-◌}
-use borrow.Author.Rules.{rules}
 use Rattle.compare_pairs.proofs.appears.Given as goal
 
 abbrev pub invariant-loop-i : goal.invariant-loop-i

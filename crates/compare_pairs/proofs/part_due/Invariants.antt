@@ -1,6 +1,5 @@
 -- `part_due` is safe and ends. Assumes nothing.
 use Prim.Native.Nat.{◌-◌}
-use borrow.Author.Rules.{rules}
 use Rattle.compare_pairs.proofs.part_due.Given as goal
 
 abbrev pub invariant-loop-i : goal.invariant-loop-i

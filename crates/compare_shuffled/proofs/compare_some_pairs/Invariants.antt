@@ -1,6 +1,5 @@
 -- `compare_some_pairs` is safe and ends. Assumes nothing.
 use Prim.Native.Nat.{◌-◌}
-use borrow.Author.Rules.{rules}
 use Rattle.compare_shuffled.proofs.compare_some_pairs.Given as goal
 
 abbrev pub invariant-loop-i : goal.invariant-loop-i

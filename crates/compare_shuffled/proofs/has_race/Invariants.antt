@@ -1,6 +1,5 @@
 -- `has_race` is safe and ends. Assumes nothing.
 use Prim.Native.Nat.{◌-◌}
-use borrow.Author.Rules.{rules}
 use Rattle.compare_shuffled.proofs.has_race.Given as goal
 
 abbrev pub invariant-loop-i : goal.invariant-loop-i

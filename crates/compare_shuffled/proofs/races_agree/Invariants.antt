@@ -1,6 +1,5 @@
 -- `races_agree` is safe and ends. Assumes nothing.
 use Prim.Native.Nat.{◌-◌}
-use borrow.Author.Rules.{rules}
 use Rattle.compare_shuffled.proofs.races_agree.Given as goal
 
 abbrev pub invariant-loop-i : goal.invariant-loop-i

@@ -1,6 +1,5 @@
 -- `row_agrees` is safe and ends. Assumes nothing.
 use Prim.Native.Nat.{◌-◌}
-use borrow.Author.Rules.{rules}
 use Rattle.compare_shuffled.proofs.row_agrees.Given as goal
 
 abbrev pub invariant-loop-q : goal.invariant-loop-q

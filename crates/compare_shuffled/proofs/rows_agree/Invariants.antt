@@ -1,6 +1,5 @@
 -- `rows_agree` is safe and ends. Assumes nothing.
 use Prim.Native.Nat.{◌-◌}
-use borrow.Author.Rules.{rules}
 use Rattle.compare_shuffled.proofs.rows_agree.Given as goal
 
 abbrev pub invariant-loop-k : goal.invariant-loop-k

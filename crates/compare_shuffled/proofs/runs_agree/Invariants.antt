@@ -1,6 +1,5 @@
 -- `runs_agree` is safe and ends. Assumes nothing.
 use Prim.Native.Nat.{◌-◌}
-use borrow.Author.Rules.{rules}
 use Rattle.compare_shuffled.proofs.runs_agree.Given as goal
 
 abbrev pub invariant-loop-i : goal.invariant-loop-i

@@ -1,6 +1,5 @@
 -- `add_bit` meets its contract: the sum has 32 bits. Assumes nothing.
 use native.Mathlib.Omega.{arith}
-use borrow.Author.Rules.{rules}
 use Rattle.conflicts.proofs.MetWords.{bit-fits, bit_shifted}
 use Rattle.conflicts.proofs.add_bit.Goals as goal
 

@@ -1,6 +1,5 @@
 -- `add_met` meets its contract. Assumes nothing.
 use native.Mathlib.Omega.{arith}
-use borrow.Author.Rules.{rules}
 use Rattle.conflicts.specs.Cells.{met_at}
 use Rattle.conflicts.proofs.MetWords.{bit-few}
 use Rattle.conflicts.proofs.add_met.Goals as goal

@@ -1,7 +1,6 @@
 -- `clear_marks` meets its contract. The invariant: the first v words are 0. Assumes nothing.
 use Prim.Native.Nat.{◌-◌}
-use borrow.Author.Rules.{rules}
-use Rattle.conflicts.proofs.ReadingCells.{Clearing, clear-start, clear-more, clear-end}
+use Rattle.conflicts.proofs.ReadingCells.{Clearing}
 use Rattle.conflicts.proofs.clear_marks.Given as goal
 
 abbrev pub invariant-loop-v : goal.invariant-loop-v

@@ -1,6 +1,5 @@
 -- `conflict_word` meets its contract. Assumes nothing.
 use mathlib.Core.Path.{refl}
-use borrow.Author.Rules.{rules}
 use Rattle.conflicts.proofs.MetWords.{conflicts-in}
 use Rattle.conflicts.proofs.conflict_word.Goals as goal
 

@@ -1,5 +1,4 @@
 -- `first_cell` meets its contract. Assumes nothing.
-use borrow.Author.Rules.{rules}
 use Rattle.conflicts.specs.Cells.{first_cell}
 use Rattle.conflicts.proofs.first_cell.Goals as goal
 

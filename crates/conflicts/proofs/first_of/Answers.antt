@@ -1,5 +1,4 @@
 -- `first_of` meets its contract. Assumes nothing.
-use borrow.Author.Rules.{rules}
 use Rattle.conflicts.proofs.first_of.Goals as goal
 
 pub returns : goal.returns

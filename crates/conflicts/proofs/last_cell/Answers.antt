@@ -1,7 +1,6 @@
 -- `last_cell` meets its contract: the last cell has 32 bits. Assumes nothing.
 use mathlib.Core.Path.{sym, ◌∙◌}
 use native.Mathlib.Omega.{arith}
-use borrow.Author.Rules.{rules}
 use Rattle.basics.proofs.Booleans.{test-true}
 use Rattle.conflicts.specs.Cells.{last_cell}
 use Rattle.conflicts.proofs.last_cell.Goals as goal

@@ -1,5 +1,4 @@
 -- `last_of` meets its contract. Assumes nothing.
-use borrow.Author.Rules.{rules}
 use Rattle.conflicts.proofs.last_of.Goals as goal
 
 pub returns : goal.returns

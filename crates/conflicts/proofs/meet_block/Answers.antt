@@ -2,8 +2,7 @@
 use mathlib.Core.Path.{refl}
 use native.Mathlib.Omega.{arith}
 use Prim.Native.Nat.{◌-◌}
-use borrow.Author.Rules.{rules}
-use Rattle.conflicts.proofs.MetWords.{FourWords, four-start, four-few, four-more, block-met}
+use Rattle.conflicts.proofs.MetWords.{four-start, four-few, four-more, block-met}
 use Rattle.conflicts.proofs.meet_block.Goals as goal
 
 pub loop-left-init : goal.loop-left-init

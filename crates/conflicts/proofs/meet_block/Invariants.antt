@@ -1,9 +1,6 @@
 -- `meet_block` meets its contract. The invariant: the four words hold the bits from `left` on. Assumes nothing.
-use mathlib.Core.Path.{refl}
-use native.Mathlib.Omega.{arith}
 use Prim.Native.Nat.{◌-◌}
-use borrow.Author.Rules.{rules}
-use Rattle.conflicts.proofs.MetWords.{FourWords, four-start, four-few, four-more, block-met}
+use Rattle.conflicts.proofs.MetWords.{FourWords}
 use Rattle.conflicts.proofs.meet_block.Given as goal
 
 abbrev pub invariant-loop-left : goal.invariant-loop-left

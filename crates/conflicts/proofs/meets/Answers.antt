@@ -1,5 +1,4 @@
 -- `meets` meets its contract. Assumes nothing.
-use borrow.Author.Rules.{rules}
 use lib.Dec.{leb}
 use Rattle.conflicts.specs.Cells.{meet}
 use Rattle.conflicts.proofs.Cells.{bit-and}
@@ -7,4 +6,4 @@ use Rattle.conflicts.proofs.meets.Goals as goal
 
 pub returns : goal.returns
 unfolding meet
-returns c = bit-and (leb c.args.first c.args.other_last) (leb c.args.other-first c.args.last)
+returns c = bit-and (leb c.args.first c.args.other_last) (leb c.args.other_first c.args.last)

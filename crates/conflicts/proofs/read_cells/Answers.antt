@@ -1,9 +1,6 @@
 -- `read_cells` meets its contract. The invariant: the cells of the operations below k are read. Assumes nothing.
 use native.Mathlib.Omega.{arith}
 use Prim.Native.Nat.{◌-◌}
-use borrow.Author.Rules.{rules}
-use Rattle.trace.specs.Reading.{trace_of}
-use Rattle.conflicts.specs.Cells.{CellsRead}
 use Rattle.conflicts.proofs.Cells.{file-few}
 use Rattle.conflicts.proofs.ReadingCells.{read-start, read-end}
 use Rattle.conflicts.proofs.read_cells.Goals as goal

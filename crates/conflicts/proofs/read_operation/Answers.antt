@@ -1,6 +1,5 @@
 -- `read_operation` meets its contract. Assumes nothing.
 use native.Mathlib.Omega.{arith}
-use borrow.Author.Rules.{rules}
 use Rattle.trace.specs.Trace.{is_write}
 use Rattle.conflicts.proofs.Cells.{operation-fits}
 use Rattle.conflicts.proofs.ReadingCells.{next_low, mark-fits, read_more}
@@ -13,7 +12,7 @@ pub last_cell-last-requires : goal.last_cell-last-requires
 last_cell-last-requires c =
     let pre = c.requires in
     let o = c.operation_of-o in
-    operation-fits _ pre.trace pre.inside o.ensures (omega (arith, o.type-inv))
+    operation-fits _ pre.trace pre.inside o.ensures (omega (arith, o.type_inv))
 
 pub bounds-cells-k : goal.bounds-cells-k
 bounds-cells-k c =
@@ -32,6 +31,6 @@ pub returns : goal.returns
 returns c =
     let pre = c.requires in
     let o = c.operation_of-o in
-    let fits = operation-fits _ pre.trace pre.inside o.ensures (omega (arith, o.type-inv)) in
+    let fits = operation-fits _ pre.trace pre.inside o.ensures (omega (arith, o.type_inv)) in
     read_more pre.before (next_low pre) o.ensures fits c.place_of-at.ensures.0 c.first_cell-first.ensures
-    c.the_last_cell.ensures c.write_bit-write.ensures c.add_bit-marks.ensures
+    c.last_cell-last.ensures c.write_bit-write.ensures c.add_bit-marks.ensures

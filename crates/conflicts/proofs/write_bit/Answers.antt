@@ -1,6 +1,5 @@
 -- `write_bit` meets its contract. Assumes nothing.
 use mathlib.Core.Path.{refl}
-use borrow.Author.Rules.{rules}
 use Rattle.conflicts.proofs.write_bit.Goals as goal
 
 pub returns : goal.returns

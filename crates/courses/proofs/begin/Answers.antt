@@ -2,8 +2,6 @@
 use mathlib.Core.Path.{◌≡◌}
 use native.Mathlib.Omega.{arith}
 use Prim.Native.Nat.{◌-◌}
-use borrow.Author.Rules.{rules}
-use Rattle.courses.specs.Courses.{Begun}
 use Rattle.courses.proofs.Filling.{begun-next}
 use Rattle.courses.proofs.begin.Goals as goal
 

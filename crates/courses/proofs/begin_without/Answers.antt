@@ -1,7 +1,6 @@
 -- `begin_without` meets its contract. Assumes nothing.
 use mathlib.Core.Path.{refl}
 use native.Mathlib.Omega.{arith}
-use borrow.Author.Rules.{rules}
 use Rattle.courses.proofs.begin_without.Goals as goal
 
 pub begin-requires : goal.begin-requires

@@ -1,8 +1,7 @@
 -- `entry_from` meets its contract. The invariant: the entries before s are passed. Assumes nothing.
 use native.Mathlib.Omega.{arith}
 use Prim.Native.Nat.{◌-◌}
-use borrow.Author.Rules.{rules}
-use Rattle.courses.proofs.Filling.{Passed, passed_start, passed-next, passed_entry}
+use Rattle.courses.proofs.Filling.{passed_start, passed-next, passed_entry}
 use Rattle.courses.proofs.entry_from.Goals as goal
 
 pub loop-s-init : goal.loop-s-init

@@ -1,7 +1,6 @@
 -- `walk_twice` meets its contract. Assumes nothing.
 use mathlib.Core.List.{◌++◌}
 use mathlib.Core.Path.{refl}
-use borrow.Author.Rules.{rules}
 use Rattle.trace.specs.Trace.{size}
 use Rattle.walk.proofs.Turns.{going-exhausted}
 use Rattle.courses.proofs.Starting.{without-sized, let-in-sized, going-without, going-let-in}

@@ -1,6 +1,5 @@
 -- `walk_whole` meets its contract. Assumes nothing.
 use mathlib.Core.Path.{refl}
-use borrow.Author.Rules.{rules}
 use Rattle.trace.specs.Trace.{size}
 use Rattle.walk.proofs.Turns.{going-exhausted}
 use Rattle.courses.proofs.Starting.{start-sized, courses-whole, going_start}

@@ -1,6 +1,5 @@
 -- `walk_without` meets its contract. Assumes nothing.
 use mathlib.Core.Path.{refl}
-use borrow.Author.Rules.{rules}
 use Rattle.walk.proofs.Turns.{going-exhausted}
 use Rattle.courses.proofs.Starting.{without-sized, going-without}
 use Rattle.courses.proofs.walk_without.Goals as goal

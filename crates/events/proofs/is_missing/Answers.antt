@@ -1,6 +1,5 @@
 -- `is_missing` meets its contract. Assumes nothing.
 use mathlib.Core.Path.{refl}
-use borrow.Author.Rules.{rules}
 use Rattle.events.proofs.EventBits.{shift-missing}
 use Rattle.events.proofs.is_missing.Goals as goal
 

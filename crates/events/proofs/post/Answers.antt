@@ -1,5 +1,4 @@
 -- `post` meets its contract. Assumes nothing.
-use borrow.Author.Rules.{rules}
 use Rattle.events.proofs.EventBits.{shift-set}
 use Rattle.events.proofs.post.Goals as goal
 

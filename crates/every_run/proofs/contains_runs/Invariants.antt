@@ -1,6 +1,5 @@
 -- `contains_runs` is safe and ends. Assumes nothing.
 use Prim.Native.Nat.{◌-◌}
-use borrow.Author.Rules.{rules}
 use Rattle.every_run.proofs.contains_runs.Given as goal
 
 abbrev pub invariant-loop-set : goal.invariant-loop-set

@@ -1,6 +1,5 @@
 -- `every_run` is safe and ends. Assumes nothing.
 use Prim.Native.Nat.{◌-◌}
-use borrow.Author.Rules.{rules}
 use Rattle.every_run.proofs.every_run.Given as goal
 
 abbrev pub invariant-loop-turn : goal.invariant-loop-turn

@@ -1,6 +1,5 @@
 -- `following` is safe and ends. Assumes nothing.
 use Prim.Native.Nat.{◌-◌}
-use borrow.Author.Rules.{rules}
 use Rattle.every_run.proofs.following.Given as goal
 
 abbrev pub invariant-loop-x : goal.invariant-loop-x

@@ -1,6 +1,5 @@
 -- `largest_without` is safe and ends. Assumes nothing.
 use Prim.Native.Nat.{◌-◌}
-use borrow.Author.Rules.{rules}
 use Rattle.every_run.proofs.largest_without.Given as goal
 
 abbrev pub invariant-loop-set : goal.invariant-loop-set

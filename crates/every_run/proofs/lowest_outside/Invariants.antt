@@ -1,6 +1,5 @@
 -- `lowest_outside` is safe and ends. Assumes nothing.
 use Prim.Native.Nat.{◌-◌}
-use borrow.Author.Rules.{rules}
 use Rattle.every_run.proofs.lowest_outside.Given as goal
 
 abbrev pub invariant-loop-x : goal.invariant-loop-x

@@ -1,6 +1,5 @@
 -- `note_order` is safe and ends. Assumes nothing.
 use Prim.Native.Nat.{◌-◌}
-use borrow.Author.Rules.{rules}
 use Rattle.every_run.proofs.note_order.Given as goal
 
 abbrev pub invariant-loop-i : goal.invariant-loop-i

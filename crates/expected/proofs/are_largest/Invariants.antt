@@ -1,6 +1,5 @@
 -- `are_largest` is safe and ends. Assumes nothing.
 use Prim.Native.Nat.{◌-◌}
-use borrow.Author.Rules.{rules}
 use Rattle.expected.proofs.are_largest.Given as goal
 
 abbrev pub invariant-loop-a : goal.invariant-loop-a

@@ -1,6 +1,5 @@
 -- `has_shared_event` is safe and ends. Assumes nothing.
 use Prim.Native.Nat.{◌-◌}
-use borrow.Author.Rules.{rules}
 use Rattle.expected.proofs.has_shared_event.Given as goal
 
 abbrev pub invariant-loop-i : goal.invariant-loop-i

@@ -1,6 +1,5 @@
 -- `held_back_run` is safe and ends. Assumes nothing.
 use Prim.Native.Nat.{◌-◌}
-use borrow.Author.Rules.{rules}
 use mathlib.Core.Path.{◌≡◌}
 use lib.ListN.{length}
 use Rattle.expected.proofs.held_back_run.Given as goal

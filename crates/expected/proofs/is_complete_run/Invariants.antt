@@ -1,6 +1,5 @@
 -- `is_complete_run` is safe and ends. Assumes nothing.
 use Prim.Native.Nat.{◌-◌}
-use borrow.Author.Rules.{rules}
 use Rattle.expected.proofs.is_complete_run.Given as goal
 
 abbrev pub invariant-loop-i : goal.invariant-loop-i

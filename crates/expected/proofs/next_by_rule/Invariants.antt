@@ -1,6 +1,5 @@
 -- `next_by_rule` is safe and ends. Assumes nothing.
 use Prim.Native.Nat.{◌-◌}
-use borrow.Author.Rules.{rules}
 use Rattle.expected.proofs.next_by_rule.Given as goal
 
 abbrev pub invariant-loop-q : goal.invariant-loop-q

@@ -1,6 +1,5 @@
 -- `first_left` is safe and ends. Assumes nothing.
 use Prim.Native.Nat.{◌-◌}
-use borrow.Author.Rules.{rules}
 use Rattle.large_files.proofs.first_left.Given as goal
 
 abbrev pub invariant-loop-q : goal.invariant-loop-q

@@ -1,6 +1,5 @@
 -- `shuffle` is safe and ends. Assumes nothing.
 use Prim.Native.Nat.{◌-◌}
-use borrow.Author.Rules.{rules}
 use mathlib.Core.Path.{◌≡◌}
 use lib.ListN.{length}
 use Rattle.large_files.proofs.shuffle.Given as goal

@@ -1,6 +1,5 @@
 -- `worker_left` is safe and ends. Assumes nothing.
 use Prim.Native.Nat.{◌-◌}
-use borrow.Author.Rules.{rules}
 use Rattle.large_files.proofs.worker_left.Given as goal
 
 abbrev pub invariant-loop-i : goal.invariant-loop-i

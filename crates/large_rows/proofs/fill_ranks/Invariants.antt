@@ -1,6 +1,5 @@
 -- `fill_ranks` is safe and ends. Assumes nothing.
 use Prim.Native.Nat.{◌-◌}
-use borrow.Author.Rules.{rules}
 use Rattle.large_rows.proofs.fill_ranks.Given as goal
 
 abbrev pub invariant-loop-x : goal.invariant-loop-x

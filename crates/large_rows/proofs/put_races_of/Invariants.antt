@@ -1,6 +1,5 @@
 -- `put_races_of` is safe and ends. Assumes nothing.
 use Prim.Native.Nat.{◌-◌}
-use borrow.Author.Rules.{rules}
 use mathlib.Core.Path.{◌≡◌}
 use lib.ListN.{length}
 use Rattle.large_rows.proofs.put_races_of.Given as goal
@@ -9,4 +8,4 @@ abbrev pub invariant-loop-b : goal.invariant-loop-b
 invariant-loop-b l = (length l.lower ≡ length l.initial.lower) × (length l.higher ≡ length l.initial.higher)
 
 abbrev pub decreases-loop-b : goal.decreases-loop-b
-decreases-loop-b l = l.b_end - l.b
+decreases-loop-b l = l.b-end - l.b

@@ -1,6 +1,5 @@
 -- `races_by_rows` is safe and ends. Assumes nothing.
 use Prim.Native.Nat.{◌-◌}
-use borrow.Author.Rules.{rules}
 use mathlib.Core.Path.{◌≡◌}
 use lib.ListN.{length}
 use Rattle.large_rows.proofs.races_by_rows.Given as goal

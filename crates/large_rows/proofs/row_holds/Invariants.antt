@@ -1,6 +1,5 @@
 -- `row_holds` is safe and ends. Assumes nothing.
 use Prim.Native.Nat.{◌-◌}
-use borrow.Author.Rules.{rules}
 use Rattle.large_rows.proofs.row_holds.Given as goal
 
 abbrev pub invariant-loop-q : goal.invariant-loop-q

@@ -1,7 +1,6 @@
 -- `copy_back` is safe and ends. Assumes nothing.
 use Prim.Native.Nat.{◌-◌}
 use mathlib.Core.Path.{◌≡◌}
-use borrow.Author.Rules.{rules}
 use lib.ListN.{length}
 use Rattle.lent_list.proofs.copy_back.Given as goal
 

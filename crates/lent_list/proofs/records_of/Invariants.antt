@@ -1,6 +1,5 @@
 -- `records_of` is safe and ends. Assumes nothing.
 use Prim.Native.Nat.{◌-◌}
-use borrow.Author.Rules.{rules}
 use Rattle.lent_list.proofs.records_of.Given as goal
 
 abbrev pub invariant-loop-i : goal.invariant-loop-i

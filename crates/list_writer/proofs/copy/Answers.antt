@@ -2,8 +2,7 @@
 use mathlib.Core.Path.{refl}
 use native.Mathlib.Omega.{arith}
 use Prim.Native.Nat.{◌-◌}
-use borrow.Author.Rules.{rules}
-use Rattle.list_writer.proofs.Pasting.{Pasted, pasted-none, pasted-size, pasted-more, pasted-all}
+use Rattle.list_writer.proofs.Pasting.{pasted-none, pasted-size, pasted-more, pasted-all}
 use Rattle.list_writer.proofs.copy.Goals as goal
 
 pub loop-i-init : goal.loop-i-init
@@ -21,11 +20,11 @@ bounds-row-i c =
 
 pub overflow_add-list : goal.overflow_add-list
 overflow_add-list c =
-    omega (arith, c.loop-i-test.true, c.requires.0, c.well-formed)
+    omega (arith, c.loop-i-test.true, c.requires.0, c.well_formed)
 
 pub offset_bounds-list-at : goal.offset_bounds-list-at
 offset_bounds-list-at c =
-    omega (arith, c.loop-i-test.true, c.requires.0, c.well-formed)
+    omega (arith, c.loop-i-test.true, c.requires.0, c.well_formed)
 
 pub bounds-list-at : goal.bounds-list-at
 bounds-list-at c =

@@ -1,9 +1,6 @@
 -- `copy` meets its contract. The invariant: the first i numbers are written. Assumes nothing.
-use mathlib.Core.Path.{refl}
-use native.Mathlib.Omega.{arith}
 use Prim.Native.Nat.{◌-◌}
-use borrow.Author.Rules.{rules}
-use Rattle.list_writer.proofs.Pasting.{Pasted, pasted-none, pasted-size, pasted-more, pasted-all}
+use Rattle.list_writer.proofs.Pasting.{Pasted}
 use Rattle.list_writer.proofs.copy.Given as goal
 
 abbrev pub invariant-loop-i : goal.invariant-loop-i

@@ -1,9 +1,7 @@
 -- `fill` meets its contract. The invariant: the number is written i times. Assumes nothing.
 use native.Mathlib.Omega.{arith}
 use Prim.Native.Nat.{◌-◌}
-use lib.ListN.{replicate}
-use borrow.Author.Rules.{rules}
-use Rattle.list_writer.proofs.Pasting.{Pasted, pasted-none, pasted-size, pasted-more, pasted-all, filled-long}
+use Rattle.list_writer.proofs.Pasting.{pasted-none, pasted-size, pasted-more, pasted-all, filled-long}
 use Rattle.list_writer.proofs.Pasting.{filled_at}
 use Rattle.list_writer.proofs.fill.Goals as goal
 
@@ -12,11 +10,11 @@ loop-i-init c = pasted-none _ _ c.requires (filled-long _ _)
 
 pub overflow_add-list : goal.overflow_add-list
 overflow_add-list c =
-    omega (arith, c.loop-i-test.true, c.requires, c.well-formed)
+    omega (arith, c.loop-i-test.true, c.requires, c.well_formed)
 
 pub offset_bounds-list-at : goal.offset_bounds-list-at
 offset_bounds-list-at c =
-    omega (arith, c.loop-i-test.true, c.requires, c.well-formed)
+    omega (arith, c.loop-i-test.true, c.requires, c.well_formed)
 
 pub bounds-list-at : goal.bounds-list-at
 bounds-list-at c =

@@ -1,6 +1,5 @@
 -- `below` meets its contract. Assumes nothing.
 use native.Mathlib.Omega.{arith}
-use borrow.Author.Rules.{rules}
 use Rattle.masks.proofs.Sets.{shifted, below-ones}
 use Rattle.masks.proofs.below.Goals as goal
 

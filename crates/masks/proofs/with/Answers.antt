@@ -1,5 +1,4 @@
 -- `with` meets its contract. Assumes nothing.
-use borrow.Author.Rules.{rules}
 use Rattle.masks.proofs.Sets.{with-one}
 use Rattle.masks.proofs.with.Goals as goal
 

@@ -1,5 +1,4 @@
 -- `without` meets its contract. Assumes nothing.
-use borrow.Author.Rules.{rules}
 use Rattle.masks.proofs.Sets.{without-one}
 use Rattle.masks.proofs.without.Goals as goal
 

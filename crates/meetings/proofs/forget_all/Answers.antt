@@ -1,7 +1,5 @@
 -- `forget_all` meets its contract. The invariant: the slots before this one are empty. Assumes nothing.
-use borrow.Author.Rules.{rules}
 use Prim.Native.Nat.{◌-◌}
-use Rattle.meetings.specs.Meetings.{Forgotten}
 use Rattle.meetings.proofs.Noting.{forgotten-start, forgotten-more, forgotten-all}
 use Rattle.meetings.proofs.forget_all.Goals as goal
 

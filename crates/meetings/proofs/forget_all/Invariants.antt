@@ -1,8 +1,6 @@
 -- `forget_all` meets its contract. The invariant: the slots before this one are empty. Assumes nothing.
-use borrow.Author.Rules.{rules}
 use Prim.Native.Nat.{◌-◌}
 use Rattle.meetings.specs.Meetings.{Forgotten}
-use Rattle.meetings.proofs.Noting.{forgotten-start, forgotten-more, forgotten-all}
 use Rattle.meetings.proofs.forget_all.Given as goal
 
 abbrev pub invariant-loop-slot : goal.invariant-loop-slot

@@ -1,6 +1,5 @@
 -- `note_block` meets its contract. Assumes nothing.
 use mathlib.Core.Path.{sym, ◌∙◌}
-use borrow.Author.Rules.{rules}
 use Rattle.meetings.proofs.Noting.{noted-already, block_noted}
 use Rattle.meetings.proofs.note_block.Goals as goal
 

@@ -1,6 +1,5 @@
 -- `hold_most` is safe and ends. Assumes nothing.
 use Prim.Native.Nat.{◌-◌}
-use borrow.Author.Rules.{rules}
 use Rattle.most_races.proofs.hold_most.Given as goal
 
 abbrev pub invariant-loop-i : goal.invariant-loop-i

@@ -1,7 +1,6 @@
 -- `put_most` is safe and ends. Assumes nothing.
 use Prim.Native.Nat.{◌-◌}
 use mathlib.Core.Path.{◌≡◌}
-use borrow.Author.Rules.{rules}
 use lib.ListN.{length}
 use Rattle.most_races.proofs.put_most.Given as goal
 

@@ -1,7 +1,6 @@
 -- `order_table` meets its contract: what reading the file answers, and question 11 where it refuses nothing.
 -- Assumes nothing.
 use mathlib.Core.Path.{sym, ◌∙◌}
-use borrow.Author.Rules.{rules}
 use Rattle.accept.proofs.Answers.{answer-accepts}
 use Rattle.order_table.proofs.Answers.{call-refused}
 use Rattle.order_table.proofs.order_table.Goals as goal

@@ -5,8 +5,7 @@ use native.Mathlib.Omega.{arith}
 use Prim.Native.Nat.{◌-◌}
 use lib.ListN.{get_or-replicate}
 use borrow.Author.Rules.{rules}
-use Rattle.trace.specs.Reading.{trace_of}
-use Rattle.pair_count.proofs.PairCounts.{Paired, paired_none, paired-seen, paired-more, paired-all}
+use Rattle.pair_count.proofs.PairCounts.{paired_none, paired-seen, paired-more, paired-all}
 use Rattle.trace.proofs.Answers.{file-holds}
 use Rattle.pair_count.proofs.pair_count.Goals as goal
 

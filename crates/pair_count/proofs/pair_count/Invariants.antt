@@ -1,13 +1,8 @@
 -- `pair_count` meets its contract. The invariant: the pairs of operations below k are counted, and how many operations
 -- below k each worker has. Assumes nothing.
-use mathlib.Core.Path.{◌∙◌}
-use native.Mathlib.Omega.{arith}
 use Prim.Native.Nat.{◌-◌}
-use lib.ListN.{get_or-replicate}
-use borrow.Author.Rules.{rules}
 use Rattle.trace.specs.Reading.{trace_of}
-use Rattle.pair_count.proofs.PairCounts.{Paired, paired_none, paired-seen, paired-more, paired-all}
-use Rattle.trace.proofs.Answers.{file-holds}
+use Rattle.pair_count.proofs.PairCounts.{Paired}
 use Rattle.pair_count.proofs.pair_count.Given as goal
 
 abbrev pub invariant-loop-k : goal.invariant-loop-k

@@ -1,6 +1,5 @@
 -- `count_prior` meets its contract. Assumes nothing.
 use mathlib.Core.Path.{sym}
-use borrow.Author.Rules.{rules}
 use Rattle.trace.specs.Reading.{trace_of}
 use Rattle.pair_order.proofs.Answers.{operations-places, worker-low}
 use Rattle.pair_order.proofs.count_prior.Goals as goal

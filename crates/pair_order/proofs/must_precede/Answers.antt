@@ -1,5 +1,4 @@
 -- `must_precede` meets its contract. Assumes nothing.
-use borrow.Author.Rules.{rules}
 use Rattle.trace.specs.Reading.{trace_of}
 use Rattle.pair_order.proofs.Answers.{walked-past, operations-places, worker-known, worker-low}
 use Rattle.pair_order.proofs.must_precede.Goals as goal

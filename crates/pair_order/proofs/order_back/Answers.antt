@@ -1,6 +1,5 @@
 -- `order_back` meets its contract. Assumes nothing.
 use mathlib.Core.Path.{refl, sym}
-use borrow.Author.Rules.{rules}
 use Rattle.trace.specs.Reading.{trace_of}
 use Rattle.pair_order.proofs.Answers.{ordered-after, ordered-neither, readable-operations, readable-opens}
 use Rattle.pair_order.proofs.Answers.{readable-left-out, worker-low}

@@ -1,6 +1,5 @@
 -- `order_between` meets its contract. Assumes nothing.
 use mathlib.Core.Path.{sym, ◌∙◌}
-use borrow.Author.Rules.{rules}
 use Rattle.trace.specs.Reading.{trace_of}
 use Rattle.accept.proofs.Answers.{answer-accepts}
 use Rattle.pair_order.proofs.Answers.{ordered-before, answer-ordered, answer-unaccepted}

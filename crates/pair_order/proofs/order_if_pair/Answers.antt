@@ -1,5 +1,4 @@
 -- `order_if_pair` meets its contract. Assumes nothing.
-use borrow.Author.Rules.{rules}
 use Rattle.pair_order.proofs.order_if_pair.Goals as goal
 
 pub order_between-requires : goal.order_between-requires

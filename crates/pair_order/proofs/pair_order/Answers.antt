@@ -1,6 +1,5 @@
 -- `pair_order` meets its contract. Assumes nothing.
 use mathlib.Core.Path.{sym, ◌∙◌}
-use borrow.Author.Rules.{rules}
 use Rattle.accept.proofs.Accepting.{answer-unread}
 use Rattle.reader.proofs.Answers.{answer-holds, answer-refused}
 use Rattle.pair_order.proofs.Answers.{answer-unaccepted}

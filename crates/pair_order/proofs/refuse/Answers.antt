@@ -1,7 +1,6 @@
 -- `refuse` meets its contract. Assumes nothing.
 use mathlib.Core.Logic.{inl, inr}
 use mathlib.Core.Path.{sym, ◌∙◌}
-use borrow.Author.Rules.{rules}
 use Rattle.accept.proofs.Answers.{answer-accepts}
 use Rattle.pair_order.proofs.Answers.{answer-high, answer-same, answer-unaccepted}
 use Rattle.pair_order.proofs.refuse.Goals as goal

@@ -2,8 +2,7 @@
 use mathlib.Core.Path.{sym, ◌∙◌}
 use native.Mathlib.Omega.{arith}
 use Prim.Native.Nat.{◌-◌}
-use borrow.Author.Rules.{rules}
-use Rattle.places.proofs.Lookups.{Unfound, unfound-start, unfound-next, prior-found, prior-there}
+use Rattle.places.proofs.Lookups.{unfound-start, unfound-next, prior-found, prior-there}
 use Rattle.places.proofs.count_prior.Goals as goal
 
 pub loop-at-init : goal.loop-at-init

@@ -1,9 +1,6 @@
 -- `count_prior` meets its contract. The invariant: the operation is not found before `at`. Assumes nothing.
-use mathlib.Core.Path.{sym, ◌∙◌}
-use native.Mathlib.Omega.{arith}
 use Prim.Native.Nat.{◌-◌}
-use borrow.Author.Rules.{rules}
-use Rattle.places.proofs.Lookups.{Unfound, unfound-start, unfound-next, prior-found, prior-there}
+use Rattle.places.proofs.Lookups.{Unfound}
 use Rattle.places.proofs.count_prior.Given as goal
 
 abbrev pub invariant-loop-at : goal.invariant-loop-at

@@ -1,11 +1,7 @@
 -- `lowest_left` meets its contract. The invariant: the lowest of the workers below q. Assumes nothing.
 use mathlib.Core.Path.{◌≡◌, sym, ◌∙◌}
 use native.Mathlib.Omega.{arith}
-use Prim.Native.Nat.{◌-◌, ◌<◌, ◌≤◌}
-use borrow.Author.Rules.{rules}
-use Rattle.trace.specs.Trace.{Trace}
-use Rattle.index.specs.Indexed.{Places}
-use Rattle.states.specs.States.{lowest_left}
+use Prim.Native.Nat.{◌-◌, ◌<◌}
 use Rattle.places.proofs.Lookups.{lowest-none, lowest-new, lowest-old}
 use Rattle.places.proofs.lowest_left.Goals as goal
 

@@ -1,12 +1,9 @@
 -- `lowest_left` meets its contract. The invariant: the lowest of the workers below q. Assumes nothing.
-use mathlib.Core.Path.{◌≡◌, sym, ◌∙◌}
-use native.Mathlib.Omega.{arith}
-use Prim.Native.Nat.{◌-◌, ◌<◌, ◌≤◌}
-use borrow.Author.Rules.{rules}
+use mathlib.Core.Path.{◌≡◌}
+use Prim.Native.Nat.{◌-◌, ◌≤◌}
 use Rattle.trace.specs.Trace.{Trace}
 use Rattle.index.specs.Indexed.{Places}
 use Rattle.states.specs.States.{lowest_left}
-use Rattle.places.proofs.Lookups.{lowest-none, lowest-new, lowest-old}
 use Rattle.places.proofs.lowest_left.Given as goal
 
 abbrev pub invariant-loop-q : goal.invariant-loop-q

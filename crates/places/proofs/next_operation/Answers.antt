@@ -1,6 +1,5 @@
 -- `next_operation` meets its contract. Assumes nothing.
 use mathlib.Core.Path.{◌∙◌}
-use borrow.Author.Rules.{rules}
 use Rattle.places.proofs.Lookups.{next-found, next_past}
 use Rattle.places.proofs.next_operation.Goals as goal
 

@@ -1,7 +1,6 @@
 -- `begin` meets its contract. Assumes nothing.
 use native.Mathlib.Omega.{arith}
 use Rattle.meetings.proofs.Noting.{forgotten-notes}
-use borrow.Author.Rules.{rules}
 use Rattle.race_rows.proofs.begin.Goals as goal
 
 pub begin-requires : goal.begin-requires

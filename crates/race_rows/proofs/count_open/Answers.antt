@@ -2,7 +2,6 @@
 use mathlib.Core.Path.{◌∙◌}
 use Rattle.table_entries.proofs.TableEntries.{table-reads}
 use Rattle.race_rows.proofs.RowOpening.{open-ready, open-on}
-use borrow.Author.Rules.{rules}
 use Rattle.race_rows.proofs.count_open.Goals as goal
 
 pub count_words-requires : goal.count_words-requires

@@ -4,7 +4,6 @@ use lib.ListN.{length}
 use Rattle.trace.specs.Trace.{is_access}
 use Rattle.trace.specs.declared.Operation.{Operation}
 use Rattle.race_rows.proofs.RowOpening.{row-no-access}
-use borrow.Author.Rules.{rules}
 use Rattle.race_rows.proofs.count_row.Goals as goal
 
 pub returns : goal.returns

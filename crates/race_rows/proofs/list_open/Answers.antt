@@ -2,7 +2,6 @@
 use mathlib.Core.Path.{◌∙◌}
 use Rattle.table_entries.proofs.TableEntries.{table-reads}
 use Rattle.race_rows.proofs.RowOpening.{open-ready, open-row-on}
-use borrow.Author.Rules.{rules}
 use Rattle.race_rows.proofs.list_open.Goals as goal
 
 pub list_words-requires : goal.list_words-requires
@@ -15,8 +14,7 @@ list_words-requires c =
     )
 
 pub returns : goal.returns
-returns c =
-    (
-      c.list_words.ensures,
-      open-row-on c.requires.0.counts_at.holds c.open_row-slot.ensures c.list_words.ensures,
-    )
+returns c = (
+  c.list_words.ensures,
+  open-row-on c.requires.0.counts_at.holds c.open_row-slot.ensures c.list_words.ensures,
+)

@@ -5,7 +5,6 @@ use lib.Dec.{ltb}
 use Rattle.trace.specs.Trace.{is_access}
 use Rattle.trace.specs.declared.Operation.{Operation}
 use Rattle.race_rows.proofs.RowOpening.{row-known, row-empty}
-use borrow.Author.Rules.{rules}
 use Rattle.race_rows.proofs.list_row.Goals as goal
 
 pub returns : goal.returns

@@ -1,6 +1,5 @@
 -- `next_row` meets its contract. Assumes nothing.
 use native.Mathlib.Omega.{arith}
-use borrow.Author.Rules.{rules}
 use Rattle.race_rows.proofs.next_row.Goals as goal
 
 pub list_row-requires : goal.list_row-requires

@@ -3,7 +3,6 @@ use mathlib.Core.Path.{◌∙◌}
 use native.Mathlib.Omega.{arith}
 use Rattle.table_entries.proofs.TableEntries.{table-reads, table-short}
 use Rattle.race_rows.proofs.RowOpening.{row-to-note, row_opened}
-use borrow.Author.Rules.{rules}
 use Rattle.race_rows.proofs.open_row.Goals as goal
 
 pub begin_first-requires : goal.begin_first-requires

@@ -1,7 +1,6 @@
 -- `after` meets its contract. Assumes nothing.
 use Rattle.race_words.proofs.RaceWords.{after-all, after-some}
 use native.Mathlib.Omega.{arith}
-use borrow.Author.Rules.{rules}
 use Rattle.race_words.proofs.after.Goals as goal
 
 pub returns-then-a-v : goal.returns-then-a-v

@@ -2,10 +2,8 @@
 -- Assumes nothing.
 use mathlib.Core.Path.{◌∙◌}
 use native.Mathlib.Omega.{arith}
-use Prim.Native.Nat.{◌-◌, ◌≤◌}
-use borrow.Author.Rules.{rules}
-use Rattle.trace.specs.Reading.{trace_of}
-use Rattle.race_words.proofs.RowLoops.{CountedTo, counted_start, counted-few, counted-more, counted-end}
+use Prim.Native.Nat.{◌-◌}
+use Rattle.race_words.proofs.RowLoops.{counted_start, counted-few, counted-more, counted-end}
 use Rattle.race_words.proofs.count_words.Goals as goal
 
 pub operation_count-n-requires : goal.operation_count-n-requires

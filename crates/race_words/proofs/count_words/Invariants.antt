@@ -1,11 +1,8 @@
 -- `count_words` meets its contract. The invariant: the races with the operations below 32 v are counted.
 -- Assumes nothing.
-use mathlib.Core.Path.{◌∙◌}
-use native.Mathlib.Omega.{arith}
 use Prim.Native.Nat.{◌-◌, ◌≤◌}
-use borrow.Author.Rules.{rules}
 use Rattle.trace.specs.Reading.{trace_of}
-use Rattle.race_words.proofs.RowLoops.{CountedTo, counted_start, counted-few, counted-more, counted-end}
+use Rattle.race_words.proofs.RowLoops.{CountedTo}
 use Rattle.race_words.proofs.count_words.Given as goal
 
 abbrev pub invariant-loop-v : goal.invariant-loop-v

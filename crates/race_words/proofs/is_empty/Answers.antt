@@ -1,8 +1,6 @@
 -- `is_empty` meets its contract. Assumes nothing.
-use native.Mathlib.Omega.{arith}
 use borrow.Author.Tests.{eqb-true}
 use Rattle.race_words.proofs.RowNotes.{block-empty}
-use borrow.Author.Rules.{rules}
 use Rattle.race_words.proofs.is_empty.Goals as goal
 
 pub returns : goal.returns

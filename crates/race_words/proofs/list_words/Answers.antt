@@ -1,9 +1,7 @@
 -- `list_words` meets its contract. The invariant: the races with the operations below 32 v are listed. Assumes nothing.
 use native.Mathlib.Omega.{arith}
-use Prim.Native.Nat.{◌-◌, ◌≤◌}
-use borrow.Author.Rules.{rules}
-use Rattle.trace.specs.Reading.{trace_of}
-use Rattle.race_words.proofs.RowLoops.{ListedTo, listed_start, listed-room, listed_more, listed-end}
+use Prim.Native.Nat.{◌-◌}
+use Rattle.race_words.proofs.RowLoops.{listed_start, listed-room, listed_more, listed-end}
 use Rattle.race_words.proofs.list_words.Goals as goal
 
 pub operation_count-n-requires : goal.operation_count-n-requires

@@ -1,7 +1,5 @@
 -- `note_free` meets its contract. Assumes nothing.
-use mathlib.Core.Path.{sym, ◌∙◌}
 use Rattle.race_words.proofs.RowNotes.{done-empty, done-noted}
-use borrow.Author.Rules.{rules}
 use Rattle.race_words.proofs.note_free.Goals as goal
 
 pub returns-then-is_empty : goal.returns-then-is_empty

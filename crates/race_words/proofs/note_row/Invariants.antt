@@ -1,9 +1,7 @@
 -- `note_row` meets its contract. The invariant: the blocks before this one are done. Assumes nothing.
-use native.Mathlib.Omega.{arith}
 use Prim.Native.Nat.{◌-◌, ◌/◌, ◌≤◌}
-use borrow.Author.Rules.{rules}
 use Rattle.meetings.specs.Meetings.{first_of, last_of}
-use Rattle.race_words.proofs.RowNotes.{NotingTo, noting-start, noting-more, row-noted}
+use Rattle.race_words.proofs.RowNotes.{NotingTo}
 use Rattle.race_words.proofs.note_row.Given as goal
 
 abbrev pub invariant-loop-block : goal.invariant-loop-block

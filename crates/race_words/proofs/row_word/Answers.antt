@@ -1,7 +1,5 @@
 -- `row_word` meets its contract. Assumes nothing.
-use mathlib.Core.Path.{◌≡◌}
 use Rattle.race_words.proofs.RaceWords.{race-word}
-use borrow.Author.Rules.{rules}
 use Rattle.race_words.proofs.row_word.Goals as goal
 
 pub returns : goal.returns

@@ -1,7 +1,6 @@
 -- `count_if_room` meets its contract. Assumes nothing.
 use native.Mathlib.Omega.{arith}
 use Rattle.races.proofs.Answers.{answer-listed, answer-short}
-use borrow.Author.Rules.{rules}
 use Rattle.races.proofs.count_if_room.Goals as goal
 
 pub returns-then-count-room : goal.returns-then-count-room

@@ -5,9 +5,8 @@ use Prim.Native.Nat.{◌-◌}
 use borrow.Author.Rules.{rules}
 use Rattle.trace.specs.Reading.{trace_of}
 use Rattle.table_entries.proofs.TableEntries.{table-reads, table-short}
-use Rattle.race_rows.specs.Rows.{CountsAt}
 use Rattle.race_rows.proofs.RowStart.{counts_start}
-use Rattle.races.proofs.PairWriting.{row_few, Counted, count_none, count-more, count-all}
+use Rattle.races.proofs.PairWriting.{row_few, count_none, count-more, count-all}
 use Rattle.races.proofs.count_races.Goals as goal
 
 pub operation_count-n-requires : goal.operation_count-n-requires

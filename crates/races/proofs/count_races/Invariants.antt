@@ -1,13 +1,9 @@
 -- `count_races` meets its contract. The invariant: the races whose lower operation is below a are counted.
 -- Assumes nothing.
-use native.Mathlib.Omega.{arith}
 use Prim.Native.Nat.{◌-◌}
-use borrow.Author.Rules.{rules}
 use Rattle.trace.specs.Reading.{trace_of}
-use Rattle.table_entries.proofs.TableEntries.{table-reads, table-short}
 use Rattle.race_rows.specs.Rows.{CountsAt}
-use Rattle.race_rows.proofs.RowStart.{counts_start}
-use Rattle.races.proofs.PairWriting.{row_few, Counted, count_none, count-more, count-all}
+use Rattle.races.proofs.PairWriting.{Counted}
 use Rattle.races.proofs.count_races.Given as goal
 
 abbrev pub invariant-loop-a : goal.invariant-loop-a

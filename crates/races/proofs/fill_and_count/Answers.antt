@@ -1,7 +1,6 @@
 -- `fill_and_count` meets its contract: what filling the table answers, and question 16 where it refuses nothing.
 -- Assumes nothing.
 use mathlib.Core.Path.{sym, ◌∙◌}
-use borrow.Author.Rules.{rules}
 use Rattle.races.proofs.Answers.{table-after-holds, counts-filled, counts-refused}
 use Rattle.races.proofs.fill_and_count.Goals as goal
 

@@ -3,7 +3,6 @@ use native.Mathlib.Omega.{arith}
 use Rattle.table_entries.proofs.TableEntries.{table-short}
 use Rattle.races.proofs.Answers.{lists-fit, lists-all, lists-short}
 use Rattle.races.proofs.PairWriting.{hints-none}
-use borrow.Author.Rules.{rules}
 use Rattle.races.proofs.list_if_room.Goals as goal
 
 pub too_many-refused-requires : goal.too_many-refused-requires

@@ -1,7 +1,6 @@
 -- `races` meets its contract: what filling the table answers, and the listing where it refuses nothing.
 -- Assumes nothing.
 use mathlib.Core.Path.{sym, ◌∙◌}
-use borrow.Author.Rules.{rules}
 use Rattle.races.proofs.Answers.{table-after-holds, call-filled, call-refused}
 use Rattle.races.proofs.races.Goals as goal
 

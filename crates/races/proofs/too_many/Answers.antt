@@ -7,7 +7,6 @@ use Rattle.accept.proofs.Questions.{accepted-workers}
 use Rattle.race_model.specs.RaceList.{race_count}
 use Rattle.pair_count.proofs.PairCounts.{races-pairs}
 use Rattle.table_entries.proofs.TableEntries.{table-reads}
-use borrow.Author.Rules.{rules}
 use Rattle.races.proofs.too_many.Goals as goal
 
 pub pair_count-requires : goal.pair_count-requires

@@ -6,9 +6,8 @@ use borrow.Author.Rules.{rules}
 use Rattle.trace.specs.Reading.{trace_of}
 use Rattle.trace.specs.Trace.{size}
 use Rattle.table_entries.proofs.TableEntries.{table-reads, table-short}
-use Rattle.race_rows.specs.Rows.{RowsAt}
 use Rattle.race_rows.proofs.RowStart.{rows_start}
-use Rattle.races.proofs.PairWriting.{table-few, RowsWritten, rows_none, rows-room, rows_more, rows_all}
+use Rattle.races.proofs.PairWriting.{table-few, rows_none, rows-room, rows_more, rows_all}
 use Rattle.races.proofs.write_rows.Goals as goal
 
 pub operation_count-n-requires : goal.operation_count-n-requires

@@ -1,6 +1,5 @@
 -- `fill_list` is safe and ends. Assumes nothing.
 use Prim.Native.Nat.{◌-◌}
-use borrow.Author.Rules.{rules}
 use mathlib.Core.Path.{◌≡◌}
 use lib.ListN.{length}
 use Rattle.random_files.proofs.fill_list.Given as goal

@@ -1,6 +1,5 @@
 -- `random_operations` is safe and ends. Assumes nothing.
 use Prim.Native.Nat.{◌-◌}
-use borrow.Author.Rules.{rules}
 use mathlib.Core.Path.{◌≡◌}
 use lib.ListN.{length}
 use Rattle.random_files.proofs.random_operations.Given as goal

@@ -3,7 +3,6 @@ use mathlib.Core.Bool.{◌&&◌}
 use mathlib.Core.Path.{◌∙◌}
 use Prim.Native.Nat.{◌+◌}
 use lib.Dec.{leb}
-use borrow.Author.Rules.{rules}
 use Rattle.trace.specs.Trace.{is_access}
 use Rattle.trace.specs.Questions.{cells_fit}
 use Rattle.reader.proofs.ReaderSteps.{if-then}

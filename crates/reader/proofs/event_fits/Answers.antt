@@ -2,7 +2,6 @@
 use mathlib.Core.Bool.{◌&&◌}
 use mathlib.Core.Path.{◌∙◌}
 use lib.Dec.{leb, eqb}
-use borrow.Author.Rules.{rules}
 use Rattle.trace.specs.Trace.{is_sync}
 use Rattle.trace.specs.Questions.{event_fits}
 use Rattle.reader.proofs.ReaderSteps.{if-then}

@@ -1,6 +1,5 @@
 -- `is_header` meets its contract. Assumes nothing.
 use mathlib.Core.Bool.{and-true}
-use borrow.Author.Rules.{rules}
 use borrow.Author.Tests.{le-leb, lt-leb, eq-eqb, ne_eqb}
 use Rattle.trace.specs.Questions.{is_header}
 use Rattle.trace.proofs.Answered.{ranked-base}

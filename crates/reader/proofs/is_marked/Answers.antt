@@ -1,7 +1,6 @@
 -- `is_marked` meets its contract. Assumes nothing.
 use native.Mathlib.Nat.{add-zero}
 use lib.Seq.{get_or-drop}
-use borrow.Author.Rules.{rules}
 use borrow.Author.Tests.{eq-eqb, ne_eqb}
 use Rattle.trace.specs.Questions.{marked}
 use Rattle.reader.proofs.is_marked.Goals as goal

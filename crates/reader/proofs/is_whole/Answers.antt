@@ -1,5 +1,4 @@
 -- `is_whole` meets its contract. Assumes nothing.
-use borrow.Author.Rules.{rules}
 use Rattle.reader.proofs.is_whole.Goals as goal
 
 pub returns : goal.returns

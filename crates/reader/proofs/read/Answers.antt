@@ -1,7 +1,6 @@
 -- `read` meets its contract. Assumes nothing.
 use mathlib.Core.Path.{◌∙◌, sym}
 use native.Mathlib.Omega.{arith}
-use borrow.Author.Rules.{rules}
 use Rattle.trace.specs.Form.{base}
 use Rattle.trace.specs.Reading.{file_reading}
 use Rattle.trace.proofs.Answered.{header-answered}

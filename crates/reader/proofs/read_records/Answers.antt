@@ -1,15 +1,14 @@
 -- `read_records` meets its contract. The invariant: what reading the file gives is what the records from k on give.
 -- Assumes nothing.
 use mathlib.Core.List.{[]}
-use mathlib.Core.Path.{◌≡◌, refl, ◌∙◌, sym, ap}
+use mathlib.Core.Path.{refl, ◌∙◌, sym, ap}
 use native.Mathlib.Omega.{arith}
-use Prim.Native.Nat.{◌≤◌, ◌-◌}
-use borrow.Author.Rules.{rules}
-use borrow.Author.Tests.{eqb-true, eqb-false, not-true, not-false}
+use Prim.Native.Nat.{◌-◌}
+use borrow.Author.Tests.{eqb-true, eqb-false}
 use Rattle.trace.specs.Form.{base}
 use Rattle.trace.specs.Reading.{file_reading}
 use Rattle.reader.specs.Answer.{answer_of}
-use Rattle.reader.proofs.ReaderSteps.{reading_at, records-start, records-end, header-few, header-inside}
+use Rattle.reader.proofs.ReaderSteps.{records-start, records-end, header-few, header-inside}
 use Rattle.reader.proofs.ReaderSteps.{record-passes, record-refuses}
 use Rattle.reader.proofs.read_records.Goals as goal
 

@@ -1,5 +1,4 @@
 -- `record_passes` meets its contract. Assumes nothing.
-use borrow.Author.Rules.{rules}
 use Rattle.reader.proofs.ReaderSteps.{passes-told}
 use Rattle.reader.proofs.record_passes.Goals as goal
 

@@ -1,6 +1,5 @@
 -- `bytes16` meets its contract.
 -- Assumes nothing.
-use borrow.Author.Rules.{rules}
 use Rattle.records.proofs.Fields.{two_bytes}
 use Rattle.records.proofs.bytes16.Goals as goal
 

@@ -1,6 +1,5 @@
 -- `record_of` meets its contract: the bytes of the fields, one after the other.
 -- Assumes nothing.
-use borrow.Author.Rules.{rules}
 use Rattle.records.proofs.Fields.{base-fields}
 use Rattle.records.proofs.record_of.Goals as goal
 

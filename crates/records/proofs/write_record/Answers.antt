@@ -3,11 +3,11 @@
 use mathlib.Core.Path.{◌≡◌, ◌∙◌}
 use native.Mathlib.Omega.{arith}
 use Prim.Native.Nat.{◌≤◌, ◌<◌, ◌-◌}
-use lib.ListN.{length, take}
+use lib.ListN.{length}
 use lib.Seq.{take_all}
 use borrow.Author.Rules.{rules}
 use Rattle.trace.specs.Form.{base, record_size}
-use Rattle.lent.proofs.Writing.{Written, written_none, written-copy, written_all}
+use Rattle.lent.proofs.Writing.{written_none, written-copy, written_all}
 use Rattle.records.proofs.write_record.Goals as goal
 
 pub loop-i-init : goal.loop-i-init

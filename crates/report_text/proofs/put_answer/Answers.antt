@@ -13,8 +13,8 @@ put_listing-requires c =
 pub put_pair_line-requires : goal.put_pair_line-requires
 unfolding refusal
 put_pair_line-requires c =
-    let q = c.answer-in-Refused-1.given.0.0 in
-    let k = c.answer-in-Refused-1.given.0.1.0 in
+    let q = c.in-Refused.number in
+    let k = c.in-Refused.place in
     let short = refusal-line-length q k (search rules) (search rules) in
     omega (arith, short, c.requires.room)
 

@@ -1,7 +1,6 @@
 -- `put_listing` meets its contract: the counts, a line for each race, and their number.
 -- Assumes nothing.
 use native.Mathlib.Omega.{arith}
-use borrow.Author.Rules.{rules}
 use Rattle.report_text.specs.ReportText.{listing}
 use Rattle.report_text.proofs.Listing.{counts-room, races-room, count_room, all_placed}
 use Rattle.report_text.proofs.put_listing.Goals as goal

@@ -1,7 +1,6 @@
 -- `put_race_line` meets its contract: a line of two numbers of 16 bits.
 -- Assumes nothing.
 use native.Mathlib.Omega.{arith}
-use borrow.Author.Rules.{rules}
 use Rattle.report_text.proofs.Lines.{race-line-length}
 use Rattle.report_text.proofs.put_race_line.Goals as goal
 

@@ -2,8 +2,7 @@
 -- Assumes nothing.
 use native.Mathlib.Omega.{arith}
 use Prim.Native.Nat.{◌-◌}
-use borrow.Author.Rules.{rules}
-use Rattle.report_text.proofs.RaceLines.{LinesPlaced, lines_none, lines-room, lines_more, lines-all}
+use Rattle.report_text.proofs.RaceLines.{lines_none, lines-room, lines_more, lines-all}
 use Rattle.report_text.proofs.put_race_lines.Goals as goal
 
 pub loop-i-init : goal.loop-i-init

@@ -1,9 +1,7 @@
 -- `put_race_lines` meets its contract: the lines of the first i races are placed.
 -- Assumes nothing.
-use native.Mathlib.Omega.{arith}
 use Prim.Native.Nat.{◌-◌}
-use borrow.Author.Rules.{rules}
-use Rattle.report_text.proofs.RaceLines.{LinesPlaced, lines_none, lines-room, lines_more, lines-all}
+use Rattle.report_text.proofs.RaceLines.{LinesPlaced}
 use Rattle.report_text.proofs.put_race_lines.Given as goal
 
 abbrev pub invariant-loop-i : goal.invariant-loop-i

@@ -2,7 +2,6 @@
 use mathlib.Core.Path.{◌∙◌}
 use native.Mathlib.Omega.{arith}
 use lib.Seq.{length-paste}
-use borrow.Author.Rules.{rules}
 use Rattle.row_writer.proofs.Counts.{row-whole}
 use Rattle.row_writer.proofs.put_counts.Goals as goal
 

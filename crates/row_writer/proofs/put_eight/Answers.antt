@@ -4,7 +4,6 @@ use native.Mathlib.Omega.{arith}
 use Prim.Native.Nat.{◌+◌}
 use lib.ListN.{drop, length-set}
 use lib.Seq.{paste-zero}
-use borrow.Author.Rules.{rules}
 use Rattle.row_writer.proofs.Counts.{copied_more}
 use Rattle.row_writer.proofs.put_eight.Goals as goal
 

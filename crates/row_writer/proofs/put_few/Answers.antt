@@ -4,7 +4,7 @@ use native.Mathlib.Omega.{arith}
 use Prim.Native.Nat.{ℕ, ◌-◌}
 use lib.ListN.{length, take}
 use borrow.Author.Rules.{rules}
-use Rattle.lent.proofs.Writing.{Written, written_none, written-copy, written_all}
+use Rattle.lent.proofs.Writing.{written_none, written-copy, written_all}
 use Rattle.row_writer.proofs.put_few.Goals as goal
 
 pub loop-q-init : goal.loop-q-init

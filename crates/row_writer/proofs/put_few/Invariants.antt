@@ -1,10 +1,7 @@
 -- `put_few` meets its contract. The invariant: the first q counts are written. Assumes nothing.
-use mathlib.Core.Path.{◌≡◌, ap, ◌∙◌}
-use native.Mathlib.Omega.{arith}
-use Prim.Native.Nat.{ℕ, ◌-◌}
+use Prim.Native.Nat.{◌-◌}
 use lib.ListN.{length, take}
-use borrow.Author.Rules.{rules}
-use Rattle.lent.proofs.Writing.{Written, written_none, written-copy, written_all}
+use Rattle.lent.proofs.Writing.{Written}
 use Rattle.row_writer.proofs.put_few.Given as goal
 
 abbrev pub invariant-loop-q : goal.invariant-loop-q

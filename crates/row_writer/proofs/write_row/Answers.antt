@@ -2,7 +2,6 @@
 use mathlib.Core.Path.{sym}
 use lib.ListN.{length}
 use lib.Seq.{take-set-lt}
-use borrow.Author.Rules.{rules}
 use Rattle.row_writer.proofs.write_row.Goals as goal
 
 pub returns : goal.returns

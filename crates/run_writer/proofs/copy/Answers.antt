@@ -1,10 +1,9 @@
 -- `copy` meets its contract. The invariant: i numbers are copied. Assumes nothing.
 use mathlib.Core.Path.{◌≡◌, ◌∙◌}
 use native.Mathlib.Omega.{arith}
-use Prim.Native.Nat.{ℕ, ◌+◌, ◌-◌, ◌≤◌}
-use lib.ListN.{get_or, length, drop, length-set}
-use lib.Seq.{paste, paste-zero}
-use borrow.Author.Rules.{rules}
+use Prim.Native.Nat.{ℕ, ◌+◌, ◌-◌}
+use lib.ListN.{get_or, drop, length-set}
+use lib.Seq.{paste-zero}
 use Rattle.run_writer.proofs.Turns.{copied_next}
 use Rattle.run_writer.proofs.copy.Goals as goal
 

@@ -1,5 +1,4 @@
 -- `write_run` meets its contract. Assumes nothing.
-use borrow.Author.Rules.{rules}
 use Rattle.trace.specs.Trace.{size}
 use Rattle.run_writer.proofs.Runs.{written_start, written-let-in, writes-run}
 use Rattle.run_writer.proofs.write_run.Goals as goal

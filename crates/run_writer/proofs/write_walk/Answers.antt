@@ -1,12 +1,5 @@
 -- `write_walk` meets its contract. The invariant: what the walk has added is written. Assumes nothing.
-use mathlib.Core.List.{List}
 use native.Mathlib.Omega.{arith}
-use Prim.Native.Nat.{ℕ, ◌≤◌}
-use borrow.Author.Rules.{rules}
-use Rattle.trace.specs.Trace.{Trace}
-use Rattle.index.specs.Indexed.{Places}
-use Rattle.walk.specs.Going.{left}
-use Rattle.run_writer.specs.Writing.{Written, Writing}
 use Rattle.run_writer.proofs.Turns.{written-turn, writing-on, writing-place, writing-inside, writing-room}
 use Rattle.run_writer.proofs.Turns.{writing-turn}
 use Rattle.run_writer.proofs.write_walk.Goals as goal

@@ -1,6 +1,5 @@
 -- `earlier` is safe and ends. Assumes nothing.
 use Prim.Native.Nat.{◌-◌}
-use borrow.Author.Rules.{rules}
 use Rattle.small_rules.proofs.earlier.Given as goal
 
 abbrev pub invariant-loop-y : goal.invariant-loop-y

@@ -1,6 +1,5 @@
 -- `has_each` is safe and ends. Assumes nothing.
 use Prim.Native.Nat.{◌-◌}
-use borrow.Author.Rules.{rules}
 use Rattle.small_rules.proofs.has_each.Given as goal
 
 abbrev pub invariant-loop-j : goal.invariant-loop-j

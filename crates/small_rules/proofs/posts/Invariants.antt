@@ -1,6 +1,5 @@
 -- `posts` is safe and ends. Assumes nothing.
 use Prim.Native.Nat.{◌-◌}
-use borrow.Author.Rules.{rules}
 use Rattle.small_rules.proofs.posts.Given as goal
 
 abbrev pub invariant-loop-y : goal.invariant-loop-y

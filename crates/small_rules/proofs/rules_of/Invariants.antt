@@ -1,6 +1,5 @@
 -- `rules_of` is safe and ends. Assumes nothing.
 use Prim.Native.Nat.{◌-◌}
-use borrow.Author.Rules.{rules}
 use Rattle.small_rules.proofs.rules_of.Given as goal
 
 abbrev pub invariant-loop-x : goal.invariant-loop-x

@@ -1,6 +1,5 @@
 -- `can_run_below` is safe and ends. Assumes nothing.
 use Prim.Native.Nat.{◌-◌}
-use borrow.Author.Rules.{rules}
 use Rattle.step_by_step.proofs.can_run_below.Given as goal
 
 abbrev pub invariant-loop-i : goal.invariant-loop-i

@@ -1,6 +1,5 @@
 -- `is_held_back_run` is safe and ends. Assumes nothing.
 use Prim.Native.Nat.{◌-◌}
-use borrow.Author.Rules.{rules}
 use Rattle.step_by_step.proofs.is_held_back_run.Given as goal
 
 abbrev pub invariant-loop-i : goal.invariant-loop-i

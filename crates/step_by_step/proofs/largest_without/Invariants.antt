@@ -1,6 +1,5 @@
 -- `largest_without` is safe and ends. Assumes nothing.
 use Prim.Native.Nat.{◌-◌}
-use borrow.Author.Rules.{rules}
 use Rattle.step_by_step.proofs.largest_without.Given as goal
 
 abbrev pub invariant-loop-turn : goal.invariant-loop-turn

@@ -1,6 +1,5 @@
 -- `of_worker` is safe and ends. Assumes nothing.
 use Prim.Native.Nat.{◌-◌}
-use borrow.Author.Rules.{rules}
 use Rattle.step_by_step.proofs.of_worker.Given as goal
 
 abbrev pub invariant-loop-x : goal.invariant-loop-x

@@ -1,6 +1,5 @@
 -- `start` is safe and ends. Assumes nothing.
 use Prim.Native.Nat.{◌-◌}
-use borrow.Author.Rules.{rules}
 use Rattle.step_by_step.proofs.start.Given as goal
 
 abbrev pub invariant-loop-q : goal.invariant-loop-q

@@ -1,6 +1,5 @@
 -- `sweep` is safe and ends. Assumes nothing.
 use Prim.Native.Nat.{◌-◌}
-use borrow.Author.Rules.{rules}
 use Rattle.step_by_step.proofs.sweep.Given as goal
 
 abbrev pub invariant-loop-x : goal.invariant-loop-x

@@ -1,5 +1,4 @@
 -- `exhaust` meets its contract. Assumes nothing.
-use borrow.Author.Rules.{rules}
 use Rattle.walk.proofs.Turns.{walked_start}
 use Rattle.table_rows.proofs.Stretch.{walked-own, sized-own}
 use Rattle.table_rows.proofs.exhaust.Goals as goal

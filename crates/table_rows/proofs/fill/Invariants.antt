@@ -1,11 +1,8 @@
 -- `fill` meets its contract. The invariant: the rows of the workers below q are filled. Assumes nothing.
-use native.Mathlib.Omega.{arith}
 use Prim.Native.Nat.{◌-◌, ◌≤◌}
 use lib.ListN.{get_or}
-use borrow.Author.Rules.{rules}
 use Rattle.trace.specs.Reading.{trace_of}
 use Rattle.table_rows.specs.Filling.{RowsTo}
-use Rattle.table_rows.proofs.Filling.{workers-start, workers-all}
 use Rattle.table_rows.proofs.fill.Given as goal
 
 abbrev pub invariant-loop-q : goal.invariant-loop-q

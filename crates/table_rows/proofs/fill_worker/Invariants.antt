@@ -1,16 +1,9 @@
 -- `fill_worker` meets its contract. The invariant: the rows of the operations with fewer than `from` earlier ones
 -- are written, and the walk is kept for that with `from`. Assumes nothing.
-use mathlib.Core.Path.{refl, ◌∙◌}
-use native.Mathlib.Omega.{arith}
-use Prim.Native.Nat.{ℕ, ◌-◌}
+use Prim.Native.Nat.{◌-◌}
 use lib.ListN.{set}
-use lib.Seq.{set-set}
-use borrow.Author.Rules.{rules}
 use Rattle.trace.specs.Reading.{trace_of}
-use Rattle.index.proofs.Lookups.{holds-places, part-ordered}
-use Rattle.table_rows.proofs.Filling.{kept-start}
-use Rattle.table_rows.proofs.Keeping.{KeptAt, list-few, to-upto, room-along, kept_next, kept-last, kept-end}
-use Rattle.table_rows.proofs.Stretch.{along-own, room-own, own-sized, none-own}
+use Rattle.table_rows.proofs.Keeping.{KeptAt}
 use Rattle.table_rows.proofs.fill_worker.Given as goal
 
 abbrev pub invariant-loop-from : goal.invariant-loop-from

@@ -1,9 +1,7 @@
 -- `pass_own` meets its contract. The invariant: the steps before `at` have freed nobody. Assumes nothing.
 use mathlib.Core.Path.{sym, ◌∙◌}
 use native.Mathlib.Omega.{arith}
-use Prim.Native.Nat.{ℕ, ◌-◌, ◌≤◌}
-use borrow.Author.Rules.{rules}
-use Rattle.table_rows.specs.Passing.{PassingOwn}
+use Prim.Native.Nat.{◌-◌}
 use Rattle.table_rows.proofs.Passing.{passing-start, passing-next, passes-freed, passes-end}
 use Rattle.table_rows.proofs.pass_own.Goals as goal
 

@@ -2,21 +2,19 @@
 use mathlib.Core.Path.{◌≡◌, ◌∙◌}
 use native.Mathlib.Nat.{add-sub_cancel_left}
 use native.Mathlib.Omega.{arith}
-use Prim.Native.Nat.{◌*◌, ◌+◌, ◌-◌}
+use mathlib.Core.List.{List}
+use Prim.Native.Nat.{ℕ, ◌*◌, ◌+◌, ◌-◌, ◌≤◌}
 use lib.ListN.{length, length-drop, take, drop}
 use lib.Seq.{length-take-le}
 use borrow.Author.Rules.{rules}
 use Rattle.table_rows.proofs.put_row.Goals as goal
 
-width : (s : tie.Start)
-    → let first = s.args.k * s.args.p in
-    length (take (first + s.args.p - first) (drop first s.args.table.now)) ≡ s.args.p
-
-width s =
-    let first = s.args.k * s.args.p in
-    let same = add-sub_cancel_left first s.args.p in
-    length-take-le _ (drop first s.args.table.now)
-    (simp length-drop (omega (arith, same, s.requires.0.table_holds))) ∙ same
+-- the row's part of the table is p numbers long
+width : (k p : ℕ) (table : List ℕ) → k * p + p ≤ length table
+    → length (take (k * p + p - k * p) (drop (k * p) table)) ≡ p
+width k p table room =
+    let same = add-sub_cancel_left (k * p) p in
+    length-take-le _ (drop (k * p) table) (simp length-drop (omega (arith, same, room))) ∙ same
 
 pub overflow_mul-first : goal.overflow_mul-first
 overflow_mul-first c = let few = c.requires.0.few in search rules
@@ -35,7 +33,7 @@ slice_bounds-write_row-end c = let room = c.requires.0.table_holds in search rul
 
 pub write_row-requires : goal.write_row-requires
 write_row-requires c =
-    let long = width s in (
+    let long = width c.args.k c.args.p c.args.table.now c.requires.0.table_holds in (
       omega (arith, long, c.requires.0.workers),
       omega (arith, long, c.requires.0.counts_hold),
       omega (arith, long, c.requires.1),
@@ -43,6 +41,5 @@ write_row-requires c =
 
 pub returns : goal.returns
 returns c =
-    let s = c5 in
-    let index = add-sub_cancel_left (s.args.k * s.args.p) s.args.p in
-    rw (c.write_row.ensures, width s, index)
+    let index = add-sub_cancel_left (c.args.k * c.args.p) c.args.p in
+    rw (c.write_row.ensures, width c.args.k c.args.p c.args.table.now c.requires.0.table_holds, index)

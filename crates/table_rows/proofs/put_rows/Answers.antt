@@ -1,9 +1,7 @@
 -- `put_rows` meets its contract. The invariant: the rows up to m are written. Assumes nothing.
 use mathlib.Core.Path.{◌≡◌}
 use native.Mathlib.Omega.{arith}
-use Prim.Native.Nat.{◌-◌, ◌≤◌}
-use borrow.Author.Rules.{rules}
-use Rattle.table_rows.specs.Filling.{RowsAlong}
+use Prim.Native.Nat.{◌-◌}
 use Rattle.table_rows.proofs.Stretch.{along-start, along-room, along-next}
 use Rattle.table_rows.proofs.put_rows.Goals as goal
 

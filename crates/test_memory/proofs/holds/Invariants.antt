@@ -1,6 +1,5 @@
 -- `holds` is safe and ends. Assumes nothing.
 use Prim.Native.Nat.{◌-◌}
-use borrow.Author.Rules.{rules}
 use Rattle.test_memory.proofs.holds.Given as goal
 
 abbrev pub invariant-loop-i : goal.invariant-loop-i

@@ -6,7 +6,6 @@ use borrow.Author.Rules.{rules}
 use Rattle.test_memory.proofs.product.Goals as goal
 
 bounded : (a b : ℕ) → (a % 1025) * (b % 17) ≤ 16384
-
 bounded a b = mul-le-mul {n₂ = 1024} {m₂ = 16} (omega arith) (omega arith)
 
 pub overflow_mul-result : goal.overflow_mul-result

@@ -1,6 +1,5 @@
 -- `operation_in` meets its contract. Assumes nothing.
 use lib.Seq.{get_or-drop, drop-drop}
-use borrow.Author.Rules.{rules}
 use Rattle.trace.specs.Questions.{operation_in}
 use Rattle.trace.proofs.operation_in.Goals as goal
 

@@ -1,5 +1,4 @@
 -- `worker_of` meets its contract. Assumes nothing.
-use borrow.Author.Rules.{rules}
 use Rattle.trace.proofs.worker_of.Goals as goal
 
 pub returns : goal.returns

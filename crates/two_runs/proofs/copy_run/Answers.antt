@@ -1,10 +1,8 @@
 -- `copy_run` meets its contract. The invariant: i numbers are copied. Assumes nothing.
 use mathlib.Core.Path.{◌≡◌}
 use native.Mathlib.Omega.{arith}
-use Prim.Native.Nat.{◌-◌, ◌≤◌}
-use lib.ListN.{take}
-use borrow.Author.Rules.{rules}
-use Rattle.lent.proofs.Writing.{Written, written_none, written-copy}
+use Prim.Native.Nat.{◌-◌}
+use Rattle.lent.proofs.Writing.{written_none, written-copy}
 use Rattle.two_runs.proofs.copy_run.Goals as goal
 
 pub loop-i-init : goal.loop-i-init

@@ -1,10 +1,7 @@
 -- `copy_run` meets its contract. The invariant: i numbers are copied. Assumes nothing.
-use mathlib.Core.Path.{◌≡◌}
-use native.Mathlib.Omega.{arith}
 use Prim.Native.Nat.{◌-◌, ◌≤◌}
 use lib.ListN.{take}
-use borrow.Author.Rules.{rules}
-use Rattle.lent.proofs.Writing.{Written, written_none, written-copy}
+use Rattle.lent.proofs.Writing.{Written}
 use Rattle.two_runs.proofs.copy_run.Given as goal
 
 abbrev pub invariant-loop-i : goal.invariant-loop-i

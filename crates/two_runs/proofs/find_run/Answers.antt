@@ -1,5 +1,4 @@
 -- `find_run` meets its contract. Assumes nothing.
-use borrow.Author.Rules.{rules}
 use Rattle.index.proofs.Lookups.{holds-places}
 use Rattle.pair_order.proofs.Answers.{readable-operations, readable-left-out, worker-low}
 use Rattle.two_runs.proofs.Found.{readable-runnable}

@@ -1,7 +1,6 @@
 -- `runs_between` meets its contract. Assumes nothing.
 use mathlib.Core.Logic.{inr}
 use mathlib.Core.Path.{sym, ◌∙◌}
-use borrow.Author.Rules.{rules}
 use Rattle.accept.proofs.Answers.{answer-accepts}
 use Rattle.pair_order.proofs.Answers.{accepted-pair}
 use Rattle.two_runs.proofs.Answers.{call-ordered, call-refused}

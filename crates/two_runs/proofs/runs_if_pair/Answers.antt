@@ -1,6 +1,5 @@
 -- `runs_if_pair` meets its contract. Assumes nothing.
 use mathlib.Core.Path.{sym}
-use borrow.Author.Rules.{rules}
 use Rattle.two_runs.proofs.Answers.{call-unpaired}
 use Rattle.two_runs.proofs.runs_if_pair.Goals as goal
 

@@ -1,7 +1,6 @@
 -- `runs_if_room` meets its contract. Assumes nothing.
 use mathlib.Core.Logic.{inl, inr}
 use native.Mathlib.Omega.{arith}
-use borrow.Author.Rules.{rules}
 use Rattle.two_runs.proofs.Answers.{call-short, call-runs}
 use Rattle.two_runs.proofs.Found.{both-written}
 use Rattle.two_runs.proofs.runs_if_room.Goals as goal

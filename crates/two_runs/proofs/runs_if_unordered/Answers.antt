@@ -1,7 +1,6 @@
 -- `runs_if_unordered` meets its contract. Assumes nothing.
 use mathlib.Core.Logic.{inl}
 use mathlib.Core.Path.{sym, ◌∙◌}
-use borrow.Author.Rules.{rules}
 use Rattle.pair_order.proofs.Answers.{accepted-pair}
 use Rattle.two_runs.proofs.Answers.{pair-unordered, call-ordered}
 use Rattle.two_runs.proofs.Found.{run-found}

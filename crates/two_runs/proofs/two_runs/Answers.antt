@@ -1,6 +1,5 @@
 -- `two_runs` meets its contract. Assumes nothing.
 use mathlib.Core.Path.{sym, ◌∙◌}
-use borrow.Author.Rules.{rules}
 use Rattle.accept.proofs.Accepting.{answer-unread}
 use Rattle.reader.proofs.Answers.{answer-holds, answer-refused}
 use Rattle.two_runs.proofs.Answers.{call-refused}

@@ -1,6 +1,5 @@
 -- `fill_bytes` is safe and ends. Assumes nothing.
 use Prim.Native.Nat.{◌-◌}
-use borrow.Author.Rules.{rules}
 use mathlib.Core.Path.{◌≡◌}
 use lib.ListN.{length}
 use Rattle.typed_calls.proofs.fill_bytes.Given as goal

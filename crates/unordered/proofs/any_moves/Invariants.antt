@@ -1,10 +1,7 @@
 -- `any_moves` meets its contract. The invariant: where `any` is 0, nothing moves for the workers below q. Assumes
 -- nothing.
-use native.Mathlib.Omega.{arith}
 use Prim.Native.Nat.{◌-◌}
-use borrow.Author.Rules.{rules}
-use Rattle.unordered.proofs.Entries.{place_inside, own_row, two-workers}
-use Rattle.unordered.proofs.StillEnds.{Asked, ask-start, ask-more, ask-end}
+use Rattle.unordered.proofs.StillEnds.{Asked}
 use Rattle.unordered.proofs.any_moves.Given as goal
 
 abbrev pub invariant-loop-q : goal.invariant-loop-q

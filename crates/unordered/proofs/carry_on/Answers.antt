@@ -1,10 +1,8 @@
 -- `carry_on` meets its contract: where nothing moves, the ends are right for a as they are. Assumes nothing.
-use borrow.Author.Tests.{eqb-true}
 use Rattle.table_entries.proofs.TableEntries.{table-reads}
 use Rattle.unordered.proofs.Entries.{placed}
 use Rattle.unordered.proofs.Results.{turn-done}
 use Rattle.unordered.proofs.StillEnds.{still-done}
-use borrow.Author.Rules.{rules}
 use Rattle.unordered.proofs.carry_on.Goals as goal
 
 pub worker_count-p-requires : goal.worker_count-p-requires
@@ -26,12 +24,11 @@ returns-then-any_moves-eq0 c =
     turn-done place (still-done place c.requires.3 (c.any_moves.ensures c.if-any_moves-eq0.true)) c.requires.3.ranks
 
 pub move_ends-requires : goal.move_ends-requires
-move_ends-requires c =
-    (
-      placed (c.requires.0, c.requires.1) c.requires.2 c.worker_count-p.ensures c.operation_count-n.ensures
-          c.worker_of.ensures c.byte_index-w.ensures.0,
-      c.requires.3,
-    )
+move_ends-requires c = (
+  placed (c.requires.0, c.requires.1) c.requires.2 c.worker_count-p.ensures c.operation_count-n.ensures
+      c.worker_of.ensures c.byte_index-w.ensures.0,
+  c.requires.3,
+)
 
 pub returns : goal.returns
 returns c =

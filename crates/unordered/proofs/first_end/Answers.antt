@@ -1,7 +1,6 @@
 -- `first_end` meets its contract. Assumes nothing.
 use mathlib.Core.Path.{sym}
 use Rattle.unordered.proofs.Beginning.{end-own, end-other}
-use borrow.Author.Rules.{rules}
 use Rattle.unordered.proofs.first_end.Goals as goal
 
 pub returns-then-i : goal.returns-then-i

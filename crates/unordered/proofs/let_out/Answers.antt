@@ -1,10 +1,8 @@
 -- `let_out` meets its contract. The invariant: k is the low end, and the state is right. Assumes nothing.
 use native.Mathlib.Omega.{arith}
 use Prim.Native.Nat.{◌-◌}
-use borrow.Author.Rules.{rules}
-use Rattle.trace.specs.Reading.{trace_of}
 use Rattle.unordered.proofs.Entries.{own_row, two-workers}
-use Rattle.unordered.proofs.Loops.{LettingOut, low-row, out-few, out-ahead, out-row, out-more, out-end}
+use Rattle.unordered.proofs.Loops.{low-row, out-few, out-ahead, out-row, out-more, out-end}
 use Rattle.unordered.proofs.let_out.Goals as goal
 
 pub entry-bound-requires : goal.entry-bound-requires
@@ -50,11 +48,10 @@ bounds-next-k c =
     )
 
 pub let_one-requires : goal.let_one-requires
-let_one-requires c =
-    (
-      two-workers c.requires.0 c.requires.1,
-      out-few c.requires.0 c.requires.1 c.loop-gone.invariant c.entry-bound.ensures.1 (omega (arith, c.loop-gone-test.true)),
-    )
+let_one-requires c = (
+  two-workers c.requires.0 c.requires.1,
+  out-few c.requires.0 c.requires.1 c.loop-gone.invariant c.entry-bound.ensures.1 (omega (arith, c.loop-gone-test.true)),
+)
 
 pub rank-gone-requires-in-loop-gone : goal.rank-gone-requires-in-loop-gone
 rank-gone-requires-in-loop-gone c =

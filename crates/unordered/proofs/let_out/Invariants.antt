@@ -1,10 +1,7 @@
 -- `let_out` meets its contract. The invariant: k is the low end, and the state is right. Assumes nothing.
-use native.Mathlib.Omega.{arith}
 use Prim.Native.Nat.{◌-◌}
-use borrow.Author.Rules.{rules}
 use Rattle.trace.specs.Reading.{trace_of}
-use Rattle.unordered.proofs.Entries.{own_row, two-workers}
-use Rattle.unordered.proofs.Loops.{LettingOut, low-row, out-few, out-ahead, out-row, out-more, out-end}
+use Rattle.unordered.proofs.Loops.{LettingOut}
 use Rattle.unordered.proofs.let_out.Given as goal
 
 abbrev pub invariant-loop-gone : goal.invariant-loop-gone

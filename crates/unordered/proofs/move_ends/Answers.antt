@@ -1,10 +1,6 @@
 -- `move_ends` meets its contract. The invariant: the ends of the workers below q are right for a. Assumes nothing.
 use native.Mathlib.Omega.{arith}
-use Prim.Native.Nat.{◌-◌, ◌≤◌}
-use borrow.Author.Rules.{rules}
-use Rattle.trace.specs.Reading.{trace_of}
-use Rattle.unordered.specs.Kept.{AllRanks}
-use Rattle.unordered.specs.Turns.{Turn}
+use Prim.Native.Nat.{◌-◌}
 use Rattle.unordered.proofs.Ranks.{ranks-but}
 use Rattle.unordered.proofs.Results.{turn-start, turn-all}
 use Rattle.unordered.proofs.move_ends.Goals as goal

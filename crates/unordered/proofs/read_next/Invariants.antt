@@ -1,10 +1,6 @@
 -- `read_next` meets its contract. The invariant: the operations from `left` on are read. Assumes nothing.
-use mathlib.Core.Path.{◌∙◌}
-use native.Mathlib.Omega.{arith}
-use borrow.Author.Rules.{rules}
 use Rattle.trace.specs.Reading.{trace_of}
 use Rattle.unordered.specs.Beginning.{ReadFrom}
-use Rattle.unordered.proofs.NextOperations.{read-few, read_known, read-start, read_more, read-end}
 use Rattle.unordered.proofs.read_next.Given as goal
 
 abbrev pub invariant-loop-left : goal.invariant-loop-left

@@ -1,8 +1,5 @@
 -- `set_ends` meets its contract. The invariant: the ends of the pairs below i are set. Assumes nothing.
-use native.Mathlib.Omega.{arith}
 use Prim.Native.Nat.{◌-◌}
-use borrow.Author.Rules.{rules}
-use Rattle.unordered.specs.Beginning.{EndsSet}
 use Rattle.unordered.proofs.Beginning.{set-start, set_more, set-end}
 use Rattle.unordered.proofs.set_ends.Goals as goal
 

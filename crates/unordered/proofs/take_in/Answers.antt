@@ -1,10 +1,8 @@
 -- `take_in` meets its contract. The invariant: k is the high end, and the state is right. Assumes nothing.
 use native.Mathlib.Omega.{arith}
 use Prim.Native.Nat.{◌-◌}
-use borrow.Author.Rules.{rules}
-use Rattle.trace.specs.Reading.{trace_of}
 use Rattle.unordered.proofs.Entries.{place_inside, two-workers}
-use Rattle.unordered.proofs.Loops.{TakingIn, in-few, in-ahead, in-more, in_end}
+use Rattle.unordered.proofs.Loops.{in-few, in-ahead, in-more, in_end}
 use Rattle.unordered.proofs.take_in.Goals as goal
 
 pub entry-bound-requires : goal.entry-bound-requires
@@ -40,11 +38,10 @@ bounds-next-k c =
     )
 
 pub take_one-requires : goal.take_one-requires
-take_one-requires c =
-    (
-      two-workers c.requires.0 c.requires.1,
-      in-few c.requires.0 c.requires.1 c.loop-due.invariant c.entry-bound.ensures.1 (omega (arith, c.loop-due-test.true)),
-    )
+take_one-requires c = (
+  two-workers c.requires.0 c.requires.1,
+  in-few c.requires.0 c.requires.1 c.loop-due.invariant c.entry-bound.ensures.1 (omega (arith, c.loop-due-test.true)),
+)
 
 pub rank-due-requires-in-loop-due : goal.rank-due-requires-in-loop-due
 rank-due-requires-in-loop-due c =

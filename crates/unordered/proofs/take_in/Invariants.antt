@@ -1,10 +1,7 @@
 -- `take_in` meets its contract. The invariant: k is the high end, and the state is right. Assumes nothing.
-use native.Mathlib.Omega.{arith}
 use Prim.Native.Nat.{◌-◌}
-use borrow.Author.Rules.{rules}
 use Rattle.trace.specs.Reading.{trace_of}
-use Rattle.unordered.proofs.Entries.{place_inside, two-workers}
-use Rattle.unordered.proofs.Loops.{TakingIn, in-few, in-ahead, in-more, in_end}
+use Rattle.unordered.proofs.Loops.{TakingIn}
 use Rattle.unordered.proofs.take_in.Given as goal
 
 abbrev pub invariant-loop-due : goal.invariant-loop-due

@@ -3,12 +3,7 @@
 use mathlib.Core.Path.{sym, ◌∙◌}
 use native.Mathlib.Omega.{arith}
 use Prim.Native.Nat.{◌-◌}
-use borrow.Author.Rules.{rules}
-use Rattle.basics.proofs.Booleans.{test-true, not-fails}
 use Rattle.masks.proofs.Sets.{in-none}
-use Rattle.masks.specs.Masks.{Apart}
-use Rattle.index.specs.Steps.{reached}
-use Rattle.walk.specs.Going.{Along}
 use Rattle.walk.proofs.Along.{along-start, along-step, along-yield, along-wait, along-end}
 use Rattle.walk.proofs.go_on.Goals as goal
 
@@ -28,7 +23,7 @@ pub returns-then-is_held : goal.returns-then-is_held
 returns-then-is_held c =
     let (x, clear) = c.loop-at.invariant in
     let entered = rw c.event_of-e.ensures at c.enter.ensures in
-    let held = sym c.is_held_lem.ensures ∙ c.if-is_held.true in
+    let held = sym c.is_held.ensures ∙ c.if-is_held.true in
     rw c.count_before.ensures.0 (along-wait c.requires.0 x c.loop-at-test.true held entered)
 
 pub with-requires : goal.with-requires
@@ -38,7 +33,7 @@ with-requires c =
 pub returns-then-not-are_apart : goal.returns-then-not-are_apart
 returns-then-not-are_apart c =
     let (x, clear) = c.loop-at.invariant in
-    let free = sym c.is_held_lem.ensures ∙ c.if-is_held.false in
+    let free = sym c.is_held.ensures ∙ c.if-is_held.false in
     let (freed, events, waiting) = rw c.event_of-e.ensures at c.release-more.ensures in
     rw (c.count_after.ensures, events, waiting)
     (along-yield c.requires.0 x c.loop-at-test.true clear free (rw freed at c.with.ensures))
@@ -46,10 +41,9 @@ returns-then-not-are_apart c =
 pub loop-at-preserved : goal.loop-at-preserved
 loop-at-preserved c =
     let (x, clear) = c.loop-at.invariant in
-    let free = sym c.is_held_lem.ensures ∙ c.if-is_held.false in
+    let free = sym c.is_held.ensures ∙ c.if-is_held.false in
     let (freed, events, waiting) = rw c.event_of-e.ensures at c.release-more.ensures in
-    let apart = c.are_apart.result in
-    let more = c.are_apart.ensures.0 ((test-true _).1 ((not-fails apart (λ h. h, λ h. h)).0 c.if-not-are_apart.false)) in
+    let more = c.are_apart.ensures.0 c.if-not-are_apart.false in
     rw (freed, events, waiting)
     (along-step c.requires.0 x c.loop-at-test.true clear free (rw freed at more))
 

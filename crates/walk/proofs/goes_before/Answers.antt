@@ -1,6 +1,5 @@
 -- `goes_before` meets its contract. Assumes nothing.
 use mathlib.Core.Path.{refl}
-use borrow.Author.Rules.{rules}
 use Rattle.basics.proofs.Booleans.{zero_one}
 use Rattle.walk.proofs.goes_before.Goals as goal
 

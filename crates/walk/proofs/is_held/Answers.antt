@@ -1,6 +1,5 @@
 -- `is_held` meets its contract. Assumes nothing.
 use native.Mathlib.Omega.{arith}
-use borrow.Author.Rules.{rules}
 use Rattle.walk.proofs.is_held.Goals as goal
 
 pub is_missing-requires : goal.is_missing-requires

@@ -1,6 +1,5 @@
 -- `turn` meets its contract. Assumes nothing.
 use native.Mathlib.Omega.{arith}
-use borrow.Author.Rules.{rules}
 use Rattle.walk.proofs.Turns.{turned}
 use Rattle.walk.proofs.turn.Goals as goal
 

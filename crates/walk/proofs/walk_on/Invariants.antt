@@ -1,7 +1,5 @@
 -- `walk_on` meets its contract. The invariant: turns lead from the start to here. Assumes nothing.
-use native.Mathlib.Omega.{arith}
 use Rattle.walk.specs.Going.{Walked, left}
-use Rattle.walk.proofs.Turns.{walked_start, walked-turn}
 use Rattle.walk.proofs.walk_on.Given as goal
 
 abbrev pub invariant-loop-ready : goal.invariant-loop-ready

@@ -1,5 +1,4 @@
 -- `above` meets its contract. Assumes nothing.
-use borrow.Author.Rules.{rules}
 use Rattle.words.proofs.Sets.{above_in}
 use Rattle.words.proofs.above.Goals as goal
 

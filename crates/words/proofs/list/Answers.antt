@@ -1,8 +1,7 @@
 -- `list` meets its contract. The invariant: the numbers of the set below i are listed. Assumes nothing.
 use native.Mathlib.Omega.{arith}
 use Prim.Native.Nat.{◌-◌}
-use borrow.Author.Rules.{rules}
-use Rattle.words.proofs.Lists.{ListedBelow, list-none, list-start, list_inside, list-more, list-end}
+use Rattle.words.proofs.Lists.{list-none, list-start, list_inside, list-more, list-end}
 use Rattle.words.proofs.list.Goals as goal
 
 pub returns-then-x-lt1 : goal.returns-then-x-lt1

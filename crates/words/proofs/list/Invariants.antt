@@ -1,8 +1,6 @@
 -- `list` meets its contract. The invariant: the numbers of the set below i are listed. Assumes nothing.
-use native.Mathlib.Omega.{arith}
 use Prim.Native.Nat.{◌-◌}
-use borrow.Author.Rules.{rules}
-use Rattle.words.proofs.Lists.{ListedBelow, list-none, list-start, list_inside, list-more, list-end}
+use Rattle.words.proofs.Lists.{ListedBelow}
 use Rattle.words.proofs.list.Given as goal
 
 abbrev pub invariant-loop-i : goal.invariant-loop-i

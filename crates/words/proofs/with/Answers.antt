@@ -1,5 +1,4 @@
 -- `with` meets its contract. Assumes nothing.
-use borrow.Author.Rules.{rules}
 use Rattle.words.proofs.Sets.{with-one}
 use Rattle.words.proofs.with.Goals as goal
 

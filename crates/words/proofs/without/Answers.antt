@@ -1,5 +1,4 @@
 -- `without` meets its contract. Assumes nothing.
-use borrow.Author.Rules.{rules}
 use Rattle.words.proofs.Sets.{without-one}
 use Rattle.words.proofs.without.Goals as goal
 

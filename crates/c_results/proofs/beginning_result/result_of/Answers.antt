@@ -1,6 +1,5 @@
 -- `result_of` meets its contract. Assumes nothing.
 use mathlib.Core.Path.{ap, sym}
-use borrow.Author.Rules.{rules}
 use Rattle.c_results.specs.Results.{beginning_result}
 use Rattle.c_results.proofs.beginning_result.result_of.Goals as goal
 

@@ -1,5 +1,4 @@
 -- `lent_file` meets its contract: what is known of a slice that is lent on. Assumes nothing.
-use borrow.Author.Rules.{rules}
 use Rattle.canonical.proofs.Answers.{bytes-known}
 use Rattle.demands.proofs.calls.lent_file.Goals as goal
 

@@ -1,2 +1,0 @@
--- LentFirst: means, the first elements of a local array, lent as a slice.
-pub mod LentFirst
