@@ -1,10 +1,10 @@
--- What comes after a call of the system, by its answer, and how many bytes it can say that it moved. Which bytes the
--- system moves, no contract can say.
+-- What comes after a call of a reader or a writer, by its answer, and how many bytes it can say that it moved. Which
+-- bytes the system moves, no contract can say.
 -- Follows: the `read` and `write` of std's `Read` and `Write`, which answer how many bytes they moved, 0 at the end of
 -- the input, or an error; that of an interrupted call is of the kind `Interrupted`. The enum is that of src/lib.rt.
 -- Differs: nowhere.
 use Rattle.std.specs.Prelude.{Bool, true, false, cond, List, ◌≡◌, ℕ, zero, suc, ◌+◌, ◌-◌, ◌≤◌, length, take}
-use Rattle.std.specs.Prelude.{Result, Ok, Err, IfOk}
+use Rattle.std.specs.Prelude.{Result, Ok, Err, IfOk, IsTrue}
 use Rattle.std.specs.IoError.{error_kind}
 use Rattle.std.specs.declared.io.Error.{Error}
 use Rattle.std.specs.declared.io.ErrorKind.{ErrorKind}
@@ -35,6 +35,16 @@ step_after (Ok (suc k)) reading count = Again (count + suc k)
 abbrev pub StepWithin : Step → ℕ → Type 0
 StepWithin (Again count) most = count ≤ most
 StepWithin (Done count whole) most = count ≤ most
+
+-- how many bytes are moved
+abbrev pub moved_by : Step → ℕ
+moved_by (Again count) = count
+moved_by (Done count whole) = count
+
+-- these are all that were to be moved
+abbrev pub EndsWhole : Step → Type 0
+EndsWhole (Again count) = ⊥
+EndsWhole (Done count whole) = IsTrue whole
 
 -- a read to the part of a buffer behind the first `count` bytes: no more than there is room for, and the first `count`
 -- are as before

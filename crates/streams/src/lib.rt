@@ -1,10 +1,12 @@
 // Reading a reader up to its end, and writing bytes to a writer. A call that a signal interrupts is made again, and one
-// that fails is told from the end of the input. No contract can say which bytes the system moves.
+// that fails is told from the end of the input. Where the bytes that a reader has left, or that a writer holds, are
+// known, as in memory, the contracts say which are moved; which bytes the system moves, no contract can say.
 #![tactic(auto)]
 
-ghost use Rattle.std.specs.Prelude.{◌≡◌, ◌≤◌, length};
+ghost use Rattle.std.specs.Prelude.{◌≡◌, ℕ, ◌<◌, ◌≤◌, ◌⊎◌, length, take, drop, IsTrue};
+ghost use Rattle.std.specs.Io.KnownBytes.{Consumes, Appends, IsAtEnd};
 ghost use Rattle.std.specs.Result.{result_err};
-ghost use Rattle.streams.specs.Streams.{AnswersBehind, step_after, StepWithin, ReadBehind};
+ghost use Rattle.streams.specs.Streams.{AnswersBehind, step_after, StepWithin, ReadBehind, moved_by, EndsWhole};
 
 use std::io::{Error, ErrorKind, Read, Result, Write};
 
@@ -79,7 +81,11 @@ fn read_once<R: Read>(
     error: &mut Option<Error>,
 ) -> Step
     requires { count ≤ length buffer.old }
-    ensures { ReadBehind buffer.old count result buffer.new }
+    ensures behind { ReadBehind buffer.old count result buffer.new }
+    ensures grows { count ≤ moved_by result }
+    ensures bytes { Consumes (R.remaining reader.old) (R.remaining reader.new)
+        (drop count (take (moved_by result) buffer.new)) }
+    ensures end { EndsWhole result → count < length buffer.old → IsAtEnd (R.remaining reader.new) }
 {
     let got = reader.read(&mut buffer[count..]);
     *error = error_after(got);
@@ -88,7 +94,9 @@ fn read_once<R: Read>(
 
 // Reads up to the input's end, or until the buffer is full.
 pub fn read_up_to<R: Read>(reader: &mut R, buffer: &mut [u8]) -> Input
-    ensures { result.count ≤ length buffer.new }
+    ensures within { result.count ≤ length buffer.new }
+    ensures bytes { Consumes (R.remaining reader.old) (R.remaining reader.new) (take result.count buffer.new) }
+    ensures end { IsTrue result.whole → (result.count ≡ length buffer.new) ⊎ IsAtEnd (R.remaining reader.new) }
 {
     let mut count: usize = 0;
     let mut error = None;
@@ -122,8 +130,30 @@ pub fn read_up_to<R: Read>(reader: &mut R, buffer: &mut [u8]) -> Input
     }
 }
 
-// Writes all bytes, and answers whether it could.
-pub fn write_whole<W: Write>(writer: &mut W, bytes: &[u8]) -> Output {
+// One write, of the bytes behind the `count` bytes that are written; its error is left in `error`.
+fn write_once<W: Write>(
+    writer: &mut W,
+    bytes: &[u8],
+    count: usize,
+    error: &mut Option<Error>,
+) -> Step
+    requires { count ≤ length bytes.now }
+    ensures within { StepWithin result (length bytes.now) }
+    ensures grows { count ≤ moved_by result }
+    ensures bytes { Appends (W.contents writer.old) (W.contents writer.new)
+        (drop count (take (moved_by result) bytes.now)) }
+    ensures end { ¬ EndsWhole result }
+{
+    let got = writer.write(&bytes[count..]);
+    *error = error_after(got);
+    step_after(got, false, bytes, count)
+}
+
+// Writes all bytes, and answers whether it could; where it could not, a part is written, from the start.
+pub fn write_whole<W: Write>(writer: &mut W, bytes: &[u8]) -> Output
+    ensures all { IsTrue result.whole → Appends (W.contents writer.old) (W.contents writer.new) bytes.now }
+    ensures part { (n : ℕ) × Appends (W.contents writer.old) (W.contents writer.new) (take n bytes.now) }
+{
     let mut count: usize = 0;
     let mut error = None;
     let mut calls = u64::MAX;
@@ -134,9 +164,7 @@ pub fn write_whole<W: Write>(writer: &mut W, bytes: &[u8]) -> Output {
                 error: None,
             };
         }
-        let got = writer.write(&bytes[count..]);
-        error = error_after(got);
-        match step_after(got, false, bytes, count) {
+        match write_once(writer, bytes, count, &mut error) {
             Step::Again { count: next } => {
                 count = next;
             }

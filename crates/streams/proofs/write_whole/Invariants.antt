@@ -1,9 +1,12 @@
--- `write_whole`: no more is written than there is, and each time there are fewer calls left.
-use Rattle.std.proofs.Common.{◌≤◌, length}
+-- `write_whole`: the first `count` bytes are written, and each time there are fewer calls left.
+use Rattle.std.proofs.Common.{◌≤◌, length, take}
+use Rattle.std.specs.Io.KnownBytes.{Appends}
 use Rattle.streams.proofs.write_whole.Given as goal
 
 abbrev pub invariant-loop-calls : goal.invariant-loop-calls
-invariant-loop-calls g l = l.count ≤ length l.bytes
+invariant-loop-calls g l =
+    (l.count ≤ length l.bytes)
+    × Appends (g.W.Write.contents l.initial.writer) (g.W.Write.contents l.writer) (take l.count l.bytes)
 
 abbrev pub decreases-loop-calls : goal.decreases-loop-calls
 decreases-loop-calls g l = l.calls
