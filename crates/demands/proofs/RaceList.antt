@@ -1,6 +1,6 @@
--- The promise of `race_list`, which the customer's sentences speak of (`ListCall`), is what the call's contract says. A
--- caller of a function that takes a list of records is proved by hand; an equation on the contract, as it is generated
--- from src/, stands here in place of one: with another `ensures`, or with a `requires`, it would not hold.
+-- The promise of `race_list`, which the customer's sentences speak of (`ListCall`), is what the call's contract says.
+-- An equation on the contract, as it is generated from src/, stands here in place of a caller: with another `ensures`,
+-- or with a `requires`, it would not hold.
 use mathlib.Core.Path.{◌≡◌, refl}
 use seplogic.Ra.Ura.{Ura}
 use base.Logic.{SProp}

@@ -1,5 +1,4 @@
-// The calls, each with its promise. `race_list`, whose callers are proved by hand, has an equation in place of a caller
-// (proofs/RaceList).
+// The calls, each with its promise. `race_list` has an equation in place of a caller (proofs/RaceList).
 ghost use Rattle.std.specs.Prelude.{◌≡◌};
 ghost use Rattle.trace.specs.Writing.{Bytes};
 ghost use Rattle.accept.specs.Acceptance.{accept_answer};
