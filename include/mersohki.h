@@ -16,7 +16,7 @@
  *   - Memory that a function writes must not overlap with other memory that the same call is handed.
  *   - Nobody else may change the memory of a call while it runs: neither the file's bytes nor what is lent. A recorder
  *     that still writes must be copied from first.
- *   - Some stack: 40 KiB are enough (docs/GUIDE.md, "Limits"). Nothing proves that.
+ *   - Some stack: 40 KiB were enough where it was measured (docs/GUIDE.md, "Limits"). Nothing proves that.
  * Nothing else is required.
  */
 #ifndef MERSOHKI_H
