@@ -2,5 +2,5 @@
 #![tactic(auto)]
 
 fn main(rt: HostRuntime) {
-    reporting::report_from(&rt, &mut rt.stdin(), "standard input");
+    reporting::report_from(&rt, &mut rt.stdin(), b"standard input");
 }

@@ -4,26 +4,25 @@
 use std::env::{Env, FillError};
 use std::fs::File;
 use std::io;
-use std::rt::Files;
 
 // The report of the file of that name.
-fn report_file<H: Files + Print + Eprint>(rt: &H, path: &str) -> io::Result<()> {
+fn report_file(rt: &HostRuntime, path: &str) -> io::Result<()> {
     match File::open(rt, path) {
         Ok(mut file) => {
             println!(rt; "{path}")?;
-            reporting::report_from(rt, &mut file, path);
+            reporting::report_from(rt, &mut file, path.as_bytes());
         }
-        Err(error) => reporting::fail(rt, path, Some(error)),
+        Err(error) => reporting::fail(rt, path.as_bytes(), Some(error)),
     }
     Ok(())
 }
 
-// The report of an argument's bytes' file.
-fn report_argument<H: Files + Print + Eprint>(rt: &H, path: &[u8]) -> io::Result<()> {
+// The report of the file that an argument's bytes name; the system's library takes names that are text alone.
+fn report_argument(rt: &HostRuntime, path: &[u8]) -> io::Result<()> {
     match str::from_utf8(path) {
         Ok(path) => report_file(rt, path),
         Err(_) => {
-            reporting::fail(rt, "argument", None);
+            reporting::fail(rt, path, None);
             Ok(())
         }
     }
@@ -34,7 +33,7 @@ fn main(rt: HostRuntime) -> io::Result<()> {
     for i in 1..usize::MAX {
         match rt.arg(i, &mut path) {
             Ok(length) => report_argument(&rt, &path[..length])?,
-            Err(FillError::TooLong) => reporting::fail(&rt, "argument", None),
+            Err(FillError::TooLong) => reporting::fail(&rt, b"argument", None),
             Err(FillError::NotPresent) => break,
         }
     }

@@ -10,26 +10,27 @@ use std::io;
 use std::io::{Error, Read};
 
 // Says on standard error what failed, and why, where that is known.
-pub fn fail<H: Eprint>(rt: &H, what: &str, error: Option<Error>) {
+pub fn fail(rt: &HostRuntime, what: &[u8], error: Option<Error>) {
+    let _ = streams::write_whole(&mut rt.stderr(), what);
     let _ = match error {
-        Some(error) => eprintln!(rt; "{what}: {error}"),
-        None => eprintln!(rt; "{what}: failed"),
+        Some(error) => eprintln!(rt; ": {error}"),
+        None => eprintln!(rt; ": failed"),
     };
 }
 
 // Writes a text to standard output, which has to be the report of a file's bytes; where that fails, says so on standard
 // error.
-fn write_report<H: Print + Eprint>(rt: &H, file: &[u8], text: &[u8])
+fn write_report(rt: &HostRuntime, file: &[u8], text: &[u8])
     requires { text.now ≡ report_text file.now }
 {
     let written = streams::write_whole(&mut io::writer(rt), text);
     if !written.whole {
-        fail(rt, "standard output", written.error);
+        fail(rt, b"standard output", written.error);
     }
 }
 
 // Prints the report of a file's bytes.
-fn print_report<H: Print + Eprint>(rt: &H, file: &[u8]) {
+fn print_report(rt: &HostRuntime, file: &[u8]) {
     let mut text = [0u8; TEXT_SIZE];
     let size = report_text::report(file, &mut text);
     write_report(rt, file, &text[..size]);
@@ -37,7 +38,7 @@ fn print_report<H: Print + Eprint>(rt: &H, file: &[u8]) {
 
 // Reads a reader, and prints the report of its bytes; where a read fails, says so on standard error under the reader's
 // name, and prints nothing else.
-pub fn report_from<H: Print + Eprint, R: Read>(rt: &H, reader: &mut R, name: &str) {
+pub fn report_from<R: Read>(rt: &HostRuntime, reader: &mut R, name: &[u8]) {
     let mut buffer = [0u8; FILE_SIZE];
     let input = streams::read_up_to(reader, &mut buffer);
     let count = input.count;
