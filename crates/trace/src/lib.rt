@@ -7,8 +7,10 @@ ghost use Rattle.std.specs.Prelude.{◌≡◌, ◌+◌, ◌≤◌, ◌<◌, leng
 ghost use Rattle.trace.specs.Form.{base, record_size, start};
 ghost use Rattle.trace.specs.LittleEndian.{value};
 ghost use Rattle.trace.specs.Questions.{operation_in};
+ghost use Rattle.trace.specs.Answer.{counts_of};
+ghost use Rattle.trace.specs.Premises.{HoldsTrace};
 ghost use Rattle.trace.specs.Reading.{reads, file_reading, trace_of};
-ghost use Rattle.trace.specs.Trace.{size, operation, is_sync, is_access};
+ghost use Rattle.trace.specs.Trace.{size, operation, worker_of, is_sync, is_access};
 
 // The mark that each record starts with.
 pub const MARK: [u8; 2] = [0x50, 0x57];
@@ -30,8 +32,8 @@ fn number16(file: &[u8], at: usize) -> u32
     requires { at + 2 ≤ length file.now }
     ensures { (result ≡ value 2 (drop at file.now)) × (result < 65536) }
 {
-    let low = basics::wide_byte(file[at]);
-    let high = basics::wide_byte(file[at + 1]);
+    let low = u32::from(file[at]);
+    let high = u32::from(file[at + 1]);
     low + 256 * high
 }
 
@@ -53,9 +55,9 @@ pub fn operation_in(file: &[u8], at: usize) -> Operation
     let number = number32(file, at + 4);
     let count = number16(file, at + 8);
     Operation {
-        worker: worker,
-        kind: kind,
-        number: number,
+        worker,
+        kind,
+        number,
         length: count as u16,
     }
 }
@@ -82,37 +84,67 @@ pub fn is_access(kind: u8) -> bool
     kind == 3 || kind == 4
 }
 
-// The worker count of the trace that the file reads as.
-pub fn worker_count(file: &[u8]) -> u8
-    requires { file_reading file.now ≡ reads (trace_of file.now) }
-    ensures { result ≡ (trace_of file.now).workers }
-{
-    let header = operation_in(file, 0);
-    header.worker
+// A refusal: the number of the question that is answered "no", and its place.
+#[derive(Clone, Copy, Debug, PartialEq, Eq)]
+pub struct Refusal {
+    pub number: u8,
+    pub place: u32,
 }
 
-// Its operation count.
-pub fn operation_count(file: &[u8]) -> u32
-    requires { file_reading file.now ≡ reads (trace_of file.now) }
-    ensures { result ≡ size (trace_of file.now) }
-{
-    let header = operation_in(file, 0);
-    header.number
+// The worker count and the operation count of a trace.
+#[derive(Clone, Copy, Debug, PartialEq, Eq)]
+pub struct Counts {
+    pub workers: u8,
+    pub operations: u32,
 }
 
-// Operation k of the trace that the file reads as.
-pub fn operation_of(file: &[u8], k: usize) -> Operation
-    requires { k < size (trace_of file.now) }
-    ensures { result ≡ operation (trace_of file.now) k }
-{
-    operation_in(file, record_start(k))
+// A file that reads as a trace, and the trace's counts.
+#[derive(Clone, Copy)]
+pub struct TraceFile<'a> {
+    pub bytes: &'a [u8],
+    pub workers: u8,
+    pub operations: u32,
+    pub ghost holds: { HoldsTrace bytes.now workers operations },
 }
 
-// Its worker.
-pub fn worker_of(file: &[u8], k: usize) -> u8
-    requires { k < size (trace_of file.now) }
-    ensures { result ≡ (operation (trace_of file.now) k).worker }
-{
-    let o = operation_of(file, k);
-    o.worker
+impl TraceFile<'_> {
+    // A file of which it is known that it reads as a trace.
+    pub fn of(file: &[u8]) -> TraceFile<'_>
+        requires { file_reading file.now ≡ reads (trace_of file.now) }
+        ensures { result.bytes.now ≡ file.now }
+    {
+        let header = operation_in(file, 0);
+        TraceFile {
+            bytes: file,
+            workers: header.worker,
+            operations: header.number,
+        }
+    }
+
+    // Its counts.
+    pub fn counts(&self) -> Counts
+        ensures { result ≡ counts_of (trace_of self.now.bytes.now) }
+    {
+        Counts {
+            workers: self.workers,
+            operations: self.operations,
+        }
+    }
+
+    // Operation k.
+    pub fn operation(&self, k: usize) -> Operation
+        requires { k < size (trace_of self.now.bytes.now) }
+        ensures { result ≡ operation (trace_of self.now.bytes.now) k }
+    {
+        operation_in(self.bytes, record_start(k))
+    }
+
+    // Its worker.
+    pub fn worker(&self, k: usize) -> usize
+        requires { k < size (trace_of self.now.bytes.now) }
+        ensures { (result ≡ worker_of (trace_of self.now.bytes.now) k) × (result < 16) }
+    {
+        let o = self.operation(k);
+        usize::from(o.worker)
+    }
 }

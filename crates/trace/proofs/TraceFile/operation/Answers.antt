@@ -1,8 +1,8 @@
--- `operation_of` meets its contract. Assumes nothing.
+-- `operation` meets its contract. Assumes nothing.
 use mathlib.Core.Path.{◌∙◌, sym}
 use native.Mathlib.Omega.{arith}
 use Rattle.trace.proofs.Answers.{record_of}
-use Rattle.trace.proofs.operation_of.Goals as goal
+use Rattle.trace.proofs.TraceFile.operation.Goals as goal
 
 pub record_start-requires : goal.record_start-requires
 record_start-requires c = omega (arith, (record_of _ _ c.requires).few)
