@@ -1,7 +1,7 @@
 -- `walk_on` meets its contract. The invariant: turns lead from the start to here. Assumes nothing.
 use native.Mathlib.Omega.{arith}
 use Rattle.walk.proofs.Turns.{walked_start, walked-turn}
-use Rattle.walk.proofs.walk_on.Goals as goal
+use Rattle.walk.proofs.Walk.walk_on.Goals as goal
 
 pub loop-ready-init : goal.loop-ready-init
 loop-ready-init c = walked_start c.requires
