@@ -9,8 +9,8 @@ use Rattle.trace.specs.Premises.{HoldsTrace}
 use Rattle.trace.specs.Reading.{refused, reads, file_reading, trace_of}
 use Rattle.trace.specs.Trace.{Trace, size}
 use Rattle.trace.proofs.Answers.{trace-reads}
-use Rattle.trace.proofs.Outcomes.{tells-refusals, outcome-refused, outcome-reads, refuses-nothing}
-use Rattle.trace.specs.Answer.{Refused}
+use Rattle.trace.proofs.Outcomes.{tells-refusals, outcome-refused, outcome-reads, refuses-nothing, same-counts}
+use Rattle.trace.specs.Answer.{Refused, counts_of}
 use Rattle.accept.specs.Acceptance.{Accepted, acceptance, AcceptedTrace, answer_of, accept_answer}
 use Rattle.accept.specs.Refusals.{RefusedFile}
 use Rattle.accept.proofs.Questions.{accepted-reads, accepted-trace, accepted-holds, refused-file}
@@ -29,10 +29,9 @@ module _ (bytes : List ℕ) where
       → AcceptedTrace bytes (trace_of bytes) × HoldsTrace bytes p n
   unfolding accept_answer
   answer-accepts p n a =
-      let (t, e, i) = outcome-reads answer_of (refuses-nothing _ _) (acceptance bytes) a in
+      let (t, e, i) = outcome-reads answer_of (refuses-nothing counts_of _) (acceptance bytes) a in
       let accepted : AcceptedTrace bytes t = record { passes = e } in
-      let ep : t.workers ≡ p = cc in
-      let en : size t ≡ n = cc in
+      let (ep, en) = same-counts t i in
       (rw (accepted-trace accepted) accepted, rw (ep, en) at (accepted-holds accepted))
 
   -- a file is accepted with trace t exactly if it reads as t and the answer is t's counts

@@ -17,9 +17,12 @@ pub fn accept_if_done(x: &IndexedFile<'_>, done: &[u16; 16]) -> Result<Counts, R
     ensures { result ≡ accept_answer x.now.trace.bytes.now }
 {
     let n = x.trace.operations as usize;
-    let k = places::lowest_left(x.index, usize::from(x.trace.workers), n, done);
+    let k = places::lowest_left(x.index, x.trace.workers as usize, n, done);
     if k < n {
-        return Err(Refusal { number: 10, place: k as u32 });
+        return Err(Refusal {
+            number: 10,
+            place: k as u32,
+        });
     }
     Ok(x.trace.counts())
 }
@@ -28,7 +31,7 @@ pub fn accept_if_done(x: &IndexedFile<'_>, done: &[u16; 16]) -> Result<Counts, R
 pub fn accept_if_complete(x: &IndexedFile<'_>) -> Result<Counts, Refusal>
     ensures { result ≡ accept_answer x.now.trace.bytes.now }
 {
-    let end = courses::walk_whole(x.index, usize::from(x.trace.workers));
+    let end = courses::walk_whole(x.index, x.trace.workers as usize);
     accept_if_done(x, &end.done)
 }
 
@@ -38,5 +41,8 @@ pub fn accept(file: &[u8]) -> Result<Counts, Refusal>
 {
     let trace = reader::open(file)?;
     let index = Index::of(&trace);
-    accept_if_complete(&IndexedFile { trace, index: &index })
+    accept_if_complete(&IndexedFile {
+        trace,
+        index: &index,
+    })
 }

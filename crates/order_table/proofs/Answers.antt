@@ -10,8 +10,8 @@ use Rattle.trace.specs.Premises.{HoldsTrace}
 use Rattle.trace.specs.Refusals.{by_earlier, by_this}
 use Rattle.trace.specs.Reading.{Reading, refused, trace_of}
 use Rattle.trace.specs.Trace.{size}
-use Rattle.trace.proofs.Outcomes.{tells-refusals, outcome-refused, outcome-reads, refuses-nothing}
-use Rattle.trace.specs.Answer.{Refused}
+use Rattle.trace.proofs.Outcomes.{tells-refusals, outcome-refused, outcome-reads, refuses-nothing, same-counts}
+use Rattle.trace.specs.Answer.{Refused, counts_of}
 use Rattle.order_table.specs.Table.{Filled}
 use Rattle.accept.specs.Acceptance.{AcceptedTrace, accept_answer}
 use Rattle.accept.proofs.Answers.{refused-answer}
@@ -70,9 +70,8 @@ module _ (bytes lent : List ℕ) where
       → AcceptedTable bytes (length lent) (trace_of bytes) × HoldsTrace bytes p n
   unfolding table_answer
   table_filled p n a =
-      let (t, e, i) = outcome-reads answer_of (refuses-nothing _ _) (table_reading bytes (length lent)) a in
+      let (t, e, i) = outcome-reads answer_of (refuses-nothing counts_of _) (table_reading bytes (length lent)) a in
       let passed = ((table-comes-out bytes (length lent)).passes t).0 e in
-      let ep : t.workers ≡ p = cc in
-      let en : size t ≡ n = cc in
+      let (ep, en) = same-counts t i in
       let same = accepted-trace passed.accepted in
       (rw same passed, rw (ep, en) at (accepted-holds passed.accepted))

@@ -13,7 +13,7 @@ fn fill_if_room(x: &IndexedFile<'_>, table: &mut [u16]) -> Result<Counts, Refusa
     requires { AcceptedTrace x.now.trace.bytes.now (trace_of x.now.trace.bytes.now) }
     ensures { TableCall x.now.trace.bytes.now table.old result table.new }
 {
-    let p = usize::from(x.trace.workers);
+    let p = x.trace.workers as usize;
     let n = x.trace.operations as usize;
     if n * p <= table.len() {
         table_rows::fill(x, table);
@@ -31,7 +31,10 @@ pub fn order_table(file: &[u8], table: &mut [u16]) -> Result<Counts, Refusal>
 {
     let trace = reader::open(file)?;
     let index = Index::of(&trace);
-    let x = IndexedFile { trace, index: &index };
+    let x = IndexedFile {
+        trace,
+        index: &index,
+    };
     accept::accept_if_complete(&x)?;
     fill_if_room(&x, table)
 }

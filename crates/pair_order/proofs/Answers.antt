@@ -15,7 +15,7 @@ use Rattle.trace.specs.Reading.{Reading, refused, trace_of}
 use Rattle.trace.specs.Refusals.{by_earlier, by_this}
 use Rattle.trace.specs.Trace.{Trace, worker_of}
 use Rattle.trace.proofs.Fitting.{trace-fits}
-use Rattle.trace.proofs.Outcomes.{tells-refusals, outcome-refused, outcome-reads, refuses-nothing}
+use Rattle.trace.proofs.Outcomes.{tells-refusals, outcome-refused, outcome-reads, refuses-nothing, same-result}
 use Rattle.model.specs.Computed.{must_precede_in, pair_order}
 use Rattle.model.proofs.SharedOrder.{order-first, order-second, order-neither}
 use Rattle.index.specs.Indexed.{Places}
@@ -167,7 +167,7 @@ module _ (bytes : List ℕ) (a b : ℕ) where
       → AcceptedPair bytes a b (trace_of bytes) × (sign ≡ pair_order (trace_of bytes) a b)
   unfolding order_answer
   order-ordered sign i =
-      let (t, e, j) = outcome-reads (answer_of a b) (refuses-nothing _ _) (pair_reading bytes a b) i in
+      let (t, e, j) = outcome-reads (answer_of a b) (refuses-nothing (λ t. pair_order t a b) _) (pair_reading bytes a b) i in
       let pair = ((pair-comes-out bytes a b).passes t).0 e in
-      let same : sign ≡ pair_order t a b = cc in
+      let same : sign ≡ pair_order t a b = sym (same-result j) in
       rw (accepted-trace pair.numbers.accepted) (pair, same)

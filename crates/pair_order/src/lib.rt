@@ -36,9 +36,15 @@ pub fn refuse(x: &IndexedFile<'_>, a: u32, b: u32) -> Refusal
     }
     let n = x.trace.operations;
     if n <= a || n <= b {
-        return Refusal { number: 12, place: 0 };
+        return Refusal {
+            number: 12,
+            place: 0,
+        };
     }
-    Refusal { number: 13, place: 0 }
+    Refusal {
+        number: 13,
+        place: 0,
+    }
 }
 
 // Must a precede b? From the done counts at the end of the walk without a: b's worker has not got past b.
@@ -65,7 +71,7 @@ fn order_back(x: &IndexedFile<'_>, a: usize, b: usize) -> i8
     ensures { result ≡ pair_order (trace_of x.now.trace.bytes.now) a b }
 {
     let prior = count_prior(x, b);
-    let end = courses::walk_without(x.index, usize::from(x.trace.workers), x.trace.worker(b), prior);
+    let end = courses::walk_without(x.index, x.trace.workers as usize, x.trace.worker(b), prior);
     if must_precede(x, &end.done, b, a) {
         return 1;
     }
@@ -79,7 +85,7 @@ fn order_between(x: &IndexedFile<'_>, a: usize, b: usize) -> Result<i8, Refusal>
     ensures { result ≡ order_answer x.now.trace.bytes.now a b }
 {
     let prior = count_prior(x, a);
-    let end = courses::walk_twice(x.index, usize::from(x.trace.workers), x.trace.worker(a), prior);
+    let end = courses::walk_twice(x.index, x.trace.workers as usize, x.trace.worker(a), prior);
     accept::accept_if_done(x, &end.whole)?;
     if must_precede(x, &end.held, a, b) {
         return Ok(-1);
@@ -94,7 +100,10 @@ pub fn pair_order(file: &[u8], a: u32, b: u32) -> Result<i8, Refusal>
 {
     let trace = reader::open(file)?;
     let index = Index::of(&trace);
-    let x = IndexedFile { trace, index: &index };
+    let x = IndexedFile {
+        trace,
+        index: &index,
+    };
     if is_pair(trace.operations, a, b) {
         return order_between(&x, a as usize, b as usize);
     }

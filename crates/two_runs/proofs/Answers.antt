@@ -120,7 +120,7 @@ module _ (bytes : List ℕ) (a b : ℕ) (first second : List ℕ) where
   unfolding runs_answer
   runs-given {t} h m =
       Iff.trans
-      (outcome-passes answer_of (refuses-nothing _ _) (runs-comes-out bytes a b (length first) (length second))
+      (outcome-passes answer_of (refuses-nothing size _) (runs-comes-out bytes a b (length first) (length second))
       (λ u r. accepted-same r.accepted.pair.numbers.accepted h)) (λ p. (p.0, cc), λ p. (p.0, rw p.1))
 
   -- in other words: the pair order is 0, and the buffers are long enough

@@ -29,10 +29,16 @@ fn runs_if_room(
 {
     let n = x.trace.operations as usize;
     if first.len() < n {
-        return Err(Refusal { number: 15, place: 0 });
+        return Err(Refusal {
+            number: 15,
+            place: 0,
+        });
     }
     if second.len() < n {
-        return Err(Refusal { number: 15, place: 0 });
+        return Err(Refusal {
+            number: 15,
+            place: 0,
+        });
     }
     first[..n].copy_from_slice(&one[..n]);
     second[..n].copy_from_slice(&other[..n]);
@@ -46,7 +52,13 @@ fn find_run(x: &IndexedFile<'_>, k: usize, run: &mut [u16; 1024]) -> Twice
     ensures { WritesRun (trace_of x.now.trace.bytes.now) k result.held result.whole run.new }
 {
     let prior = pair_order::count_prior(x, k);
-    run_writer::write_run(x.index, usize::from(x.trace.workers), x.trace.worker(k), prior, run)
+    run_writer::write_run(
+        x.index,
+        x.trace.workers as usize,
+        x.trace.worker(k),
+        prior,
+        run,
+    )
 }
 
 // Question 14 where b need not precede a: by the walk without a, with the run that holds a back; and the runs.
@@ -67,7 +79,10 @@ fn runs_if_unordered(
     let mut other = [0u16; 1024];
     let end = find_run(x, a as usize, &mut other);
     if pair_order::must_precede(x, &end.held, a as usize, b as usize) {
-        return Err(Refusal { number: 14, place: 0 });
+        return Err(Refusal {
+            number: 14,
+            place: 0,
+        });
     }
     runs_if_room(x, a, b, one, &other, first, second)
 }
@@ -88,7 +103,10 @@ fn runs_between(
     let end = find_run(x, b as usize, &mut one);
     accept::accept_if_done(x, &end.whole)?;
     if pair_order::must_precede(x, &end.held, b as usize, a as usize) {
-        return Err(Refusal { number: 14, place: 0 });
+        return Err(Refusal {
+            number: 14,
+            place: 0,
+        });
     }
     runs_if_unordered(x, a, b, &one, first, second)
 }
@@ -106,7 +124,10 @@ pub fn two_runs(
 {
     let trace = reader::open(file)?;
     let index = Index::of(&trace);
-    let x = IndexedFile { trace, index: &index };
+    let x = IndexedFile {
+        trace,
+        index: &index,
+    };
     if pair_order::is_pair(trace.operations, a, b) {
         return runs_between(&x, a, b, first, second);
     }
