@@ -59,15 +59,15 @@ walked-past h x b l d e = sym (rw e (exhausted-precedes (trace-fits h) x.exhaust
 
 -- the sign, by the two tests
 module _ (t : Trace) (a b : ℕ) {forward : Bool} (i : forward ≡ must_precede_in t a b) where
-  pub ordered-before : forward ≡ true → Ordered (negsuc 0) ≡ Ordered (pair_order t a b)
-  ordered-before e = rw (order-first t a b (sym i ∙ e))
+  pub ordered-before : forward ≡ true → negsuc 0 ≡ pair_order t a b
+  ordered-before e = sym (order-first t a b (sym i ∙ e))
 
   module _ (e : forward ≡ false) {backward : Bool} (j : backward ≡ must_precede_in t b a) where
-    pub ordered-after : backward ≡ true → Ordered (pos 1) ≡ Ordered (pair_order t a b)
-    ordered-after f = rw (order-second t a b (sym i ∙ e) (sym j ∙ f))
+    pub ordered-after : backward ≡ true → pos 1 ≡ pair_order t a b
+    ordered-after f = sym (order-second t a b (sym i ∙ e) (sym j ∙ f))
 
-    pub ordered-neither : backward ≡ false → Ordered (pos 0) ≡ Ordered (pair_order t a b)
-    ordered-neither f = rw (order-neither t a b (sym i ∙ e) (sym j ∙ f))
+    pub ordered-neither : backward ≡ false → pos 0 ≡ pair_order t a b
+    ordered-neither f = sym (order-neither t a b (sym i ∙ e) (sym j ∙ f))
 
 -- a file that reads as a trace, and its index
 pub record Readable (bytes : List ℕ) (p n : ℕ) (order starts list ends : List ℕ) : Type 0 where
@@ -128,9 +128,9 @@ module _ {bytes : List ℕ} {p n : ℕ} (accepted : AcceptedTrace bytes (trace_o
   pub accepted-pair : Pair n a b → AcceptedPair bytes a b (trace_of bytes)
   accepted-pair y = record { numbers = numbers y.first_below y.second_below; differ = y.differ }
 
-  pub answer-ordered : Pair n a b → {r : Result ℤ Refusal} → r ≡ Ordered (pair_order (trace_of bytes) a b)
-      → r ≡ order_answer bytes a b
-  answer-ordered y e = e ∙ answer-pair bytes a b (accepted-pair y)
+  pub answer-ordered : Pair n a b → {sign : ℤ} → sign ≡ pair_order (trace_of bytes) a b
+      → Ordered sign ≡ order_answer bytes a b
+  answer-ordered y e = rw e (answer-pair bytes a b (accepted-pair y))
 
   pub answer-high : (n ≤ a) ⊎ (n ≤ b) → Refused 12 0 ≡ order_answer bytes a b
   answer-high s = answer-by bytes a b (((pair-comes-out bytes a b).refuses 12 0).1 (by_earlier high))

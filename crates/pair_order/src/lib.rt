@@ -1,7 +1,7 @@
 // The order of two operations of a file's trace.
 #![tactic(auto)]
 
-ghost use Rattle.std.specs.Prelude.{true, false, ◌≢◌, ◌≡◌, ◌<◌, ◌×◌, Ok, Err};
+ghost use Rattle.std.specs.Prelude.{true, false, ◌≢◌, ◌≡◌, ◌<◌, Err};
 ghost use Rattle.trace.specs.Reading.{trace_of};
 ghost use Rattle.runs.specs.Workers.{earlier};
 ghost use Rattle.trace.specs.Trace.{worker_of};

@@ -1,5 +1,8 @@
--- `order_between` meets its contract. Assumes nothing.
+-- `order_between` meets its contract: the sign is read back from its eight bits, in which it fits. Assumes nothing.
 use mathlib.Core.Path.{sym, ◌∙◌}
+use native.Mathlib.Omega.{arith}
+use mir.Syntax.{w8}
+use Rattle.std.proofs.lemmas.Int.{ints, to_z-of_z}
 use Rattle.std.proofs.lemmas.Result.{err_from_is_err_and}
 use Rattle.accept.proofs.Answers.{answer-accepts}
 use Rattle.pair_order.proofs.Answers.{ordered-before, answer-ordered, answer-unaccepted}
@@ -26,13 +29,21 @@ must_precede-requires c =
     ((c.walk_twice-end.ensures _ _ left).0, y.second_below, y.differ)
 
 pub returns-in_err-accept_if_done : goal.returns-in_err-accept_if_done
-returns-in_err-accept_if_done c = ?
+returns-in_err-accept_if_done c =
+    let p = err_from_is_err_and c.from_residual.result c.from_residual.ensures.1 in
+    rw (p.1, p.2) (answer-unaccepted _ _ _ (sym c.in_err-accept_if_done.ensures))
 
 pub returns-then-must_precede : goal.returns-then-must_precede
-returns-then-must_precede c = ?
+returns-then-must_precede c =
+    let h = answer-accepts _ _ _ (sym c.in_ok-accept_if_done.ensures) in
+    answer-ordered h.0 c.args.x.now.trace.holds _ _ c.requires
+    (ordered-before _ _ _ c.must_precede.ensures c.if-must_precede.true)
 
 pub order_back-requires : goal.order_back-requires
 order_back-requires c = (c.requires, sym c.must_precede.ensures ∙ c.if-must_precede.false)
 
 pub returns : goal.returns
-returns c = ?
+returns c =
+    let h = answer-accepts _ _ _ (sym c.in_ok-accept_if_done.ensures) in
+    let kept = to_z-of_z w8 c.order_back.result (omega (arith, ints)) in
+    answer-ordered h.0 c.args.x.now.trace.holds _ _ c.requires (kept ∙ c.order_back.ensures)
