@@ -8,7 +8,6 @@ use Prim.Native.Nat.{ℕ, ◌<◌, ◌≤◌}
 use lib.ListN.{length, get_or, drop}
 use mir.Syntax.{w8}
 use mir.Val.{Fits}
-use Rattle.basics.proofs.Booleans.{zero_one}
 use Rattle.trace.specs.Form.{base, start}
 use Rattle.trace.specs.Premises.{HoldsTrace}
 use Rattle.trace.specs.Refusals.{by_earlier, by_this}

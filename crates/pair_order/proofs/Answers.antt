@@ -9,7 +9,6 @@ use lib.Dec.{leb}
 use lib.ListN.{get_or}
 use Rattle.runs.specs.Workers.{earlier}
 use lib.IntN.{ℤ, pos, negsuc}
-use Rattle.basics.proofs.Booleans.{zero_one}
 use Rattle.trace.specs.Premises.{HoldsTrace}
 use Rattle.trace.specs.Reading.{Reading, refused, trace_of}
 use Rattle.trace.specs.Refusals.{by_earlier, by_this}
@@ -23,8 +22,6 @@ use Rattle.index.proofs.Lookups.{holds-places}
 use Rattle.states.specs.States.{next_of}
 use Rattle.states.proofs.Answers.{exhausted-precedes}
 use Rattle.courses.specs.Courses.{Opens, Ended, LeftOut}
-use Rattle.std.specs.Prelude.{Result}
-use Rattle.trace.specs.declared.Refusal.{Refusal}
 use Rattle.trace.specs.Answer.{Refused}
 use Rattle.pair_order.specs.Order.{Ordered}
 use Rattle.accept.specs.Acceptance.{AcceptedTrace, accept_answer}
