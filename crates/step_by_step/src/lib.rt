@@ -3,6 +3,7 @@
 #![tactic(auto)]
 
 use outcomes::{Due, Question};
+use std::array;
 use std::cmp::Ordering;
 use test_files::Kind;
 
@@ -21,13 +22,9 @@ const SWEEPS: usize = 1025;
 impl<'a> Run<'a> {
     // The empty run.
     fn empty(file: &'a [u8]) -> Self {
-        let mut next = [0; 16];
-        for (q, first) in next.iter_mut().enumerate() {
-            *first = plain_file::first_from(file, 0, q);
-        }
         Run {
             file,
-            next,
+            next: array::from_fn(|q| plain_file::first_from(file, 0, q)),
             posted: [false; 256],
         }
     }
