@@ -6,7 +6,7 @@ use outcomes::{Due, Question};
 use small_rules::{Rules, Set};
 use std::array;
 use std::cmp::Ordering;
-use test_memory::RaceLists;
+use test_memory::TwoLists;
 
 // Space for the rows of a table.
 pub const ROWS: usize = 136;
@@ -129,7 +129,7 @@ impl Judgement {
     }
 
     // The races of an accepted file, ascending by lower, then higher operation; how many there are.
-    pub fn put_races(&self, file: &[u8], lists: &mut RaceLists<RACES>) -> usize {
+    pub fn put_races(&self, file: &[u8], lists: &mut TwoLists<RACES>) -> usize {
         let mut n: usize = 0;
         for i in 0..64 {
             if self.is_race(file, i / 8, i % 8) {

@@ -1,4 +1,4 @@
-// Memory that is lent for a test: what it holds before a call, and after it; lists of races; numbers and sizes.
+// Memory that is lent for a test: what it holds before a call, and after it; numbers and sizes.
 #![tactic(auto)]
 
 ghost use Rattle.std.specs.Prelude.{◌≤◌};
@@ -47,7 +47,7 @@ pub fn holds<T: Filler>(memory: &[T], due: &[T], length: usize) -> bool {
     memory[..n] == due[..n] && untouched_from(memory, n)
 }
 
-// Lists of races
+// Lists
 
 pub fn put(list: &mut [u16], i: usize, x: usize) {
     if let Some(number) = list.get_mut(i) {
@@ -55,43 +55,48 @@ pub fn put(list: &mut [u16], i: usize, x: usize) {
     }
 }
 
-// Two lists of the numbers of races, as a call writes them, with space for N races.
+// Two lists that are lent together, with space for N numbers each: of races the lower and the higher operations, or two
+// runs.
 #[derive(Clone, Copy)]
-pub struct RaceLists<const N: usize> {
-    pub lower: [u16; N],
-    pub higher: [u16; N],
+pub struct TwoLists<const N: usize> {
+    pub first: [u16; N],
+    pub second: [u16; N],
 }
 
-impl<const N: usize> RaceLists<N> {
+impl<const N: usize> TwoLists<N> {
     pub fn zeros() -> Self {
-        RaceLists {
-            lower: [0; N],
-            higher: [0; N],
+        TwoLists {
+            first: [0; N],
+            second: [0; N],
         }
     }
 
+    pub fn fill(&mut self) {
+        fill(&mut self.first);
+        fill(&mut self.second);
+    }
+
     // Lists to be lent.
-    pub fn lent() -> Self {
-        let mut lists = RaceLists::<N>::zeros();
-        fill(&mut lists.lower);
-        fill(&mut lists.higher);
+    pub fn filled() -> Self {
+        let mut lists = TwoLists::<N>::zeros();
+        lists.fill();
         lists
     }
 
-    // Race i is of a and b, if there is space for it.
+    // Puts the numbers a and b at place i, if there is space for them.
     pub fn put(&mut self, i: usize, a: usize, b: usize) {
-        put(&mut self.lower, i, a);
-        put(&mut self.higher, i, b);
+        put(&mut self.first, i, a);
+        put(&mut self.second, i, b);
     }
 
-    // Are both lists as they were lent, from race n on?
+    // Are both lists from place n on as they were before?
     pub fn untouched_from(&self, n: usize) -> bool {
-        untouched_from(&self.lower, n) && untouched_from(&self.higher, n)
+        untouched_from(&self.first, n) && untouched_from(&self.second, n)
     }
 
-    // Do the lists hold the first n races that are due, and then what was there?
-    pub fn hold<const M: usize>(&self, due: &RaceLists<M>, n: usize) -> bool {
-        holds(&self.lower, &due.lower, n) && holds(&self.higher, &due.higher, n)
+    // Do the lists hold the first n numbers that are due, and then what was there?
+    pub fn hold<const M: usize>(&self, due: &TwoLists<M>, n: usize) -> bool {
+        holds(&self.first, &due.first, n) && holds(&self.second, &due.second, n)
     }
 }
 
