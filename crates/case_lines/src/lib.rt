@@ -3,15 +3,13 @@
 
 use case_words::Word;
 
-// A line: its word, if it is known, how many numbers it has, the numbers, whether the last byte read was a digit, and
-// where the next line starts.
+// A line: its word, if it is known, how many numbers it has, the numbers, and whether the last byte read was a digit.
 #[derive(Clone, Copy)]
 pub struct Line {
     pub word: Option<Word>,
     count: usize,
     pub number: [u32; 24],
     inside: bool,
-    pub next: usize,
 }
 
 // More numbers than a line can have: from there on no more are counted. So is a line that is not of this form.
@@ -24,6 +22,26 @@ fn longer(number: u32, digit: u8) -> (u32, bool) {
 }
 
 impl Line {
+    pub fn new(text: &[u8]) -> Self {
+        let comment = text.starts_with(b"#");
+        let mut line = Line {
+            word: if comment {
+                Some(Word::Nothing)
+            } else {
+                case_words::word_at(text)
+            },
+            count: 0,
+            number: [0; 24],
+            inside: false,
+        };
+        if !comment {
+            for byte in text {
+                line.add(*byte);
+            }
+        }
+        line
+    }
+
     fn add_digit(&mut self, digit: u8) {
         if !self.inside {
             self.count = self.count.saturating_add(1).min(TOO_MANY);
@@ -61,32 +79,4 @@ impl Line {
             None => false,
         }
     }
-}
-
-// The line that starts at a place of the text.
-pub fn line_at(text: &[u8], from: usize) -> Line {
-    let rest = text.get(from..).unwrap_or(&[]);
-    let comment = rest.first() == Some(&b'#');
-    let word = if comment {
-        Some(Word::Nothing)
-    } else {
-        case_words::word_at(rest)
-    };
-    let mut line = Line {
-        word,
-        count: 0,
-        number: [0; 24],
-        inside: false,
-        next: text.len(),
-    };
-    for (i, byte) in rest.iter().enumerate() {
-        if *byte == b'\n' {
-            line.next = from.saturating_add(i + 1);
-            return line;
-        }
-        if !comment {
-            line.add(*byte);
-        }
-    }
-    line
 }

@@ -149,8 +149,7 @@ fn word_of(name: &[u8]) -> Option<Word> {
     }
 }
 
-// The word with which a line starts, up to a space or the line's end.
+// The word with which a line starts, up to a space.
 pub fn word_at(line: &[u8]) -> Option<Word> {
-    let name = line.split(|byte| *byte == b' ' || *byte == b'\n').next();
-    word_of(name.unwrap_or(b""))
+    word_of(line.split(|byte| *byte == b' ').next().unwrap_or(b""))
 }
