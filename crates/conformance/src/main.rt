@@ -60,14 +60,14 @@ fn print_seen<H: Print>(rt: &H, title: &str, seen: &Seen) -> io::Result<()> {
 // The typed cases; a text that is not read up to its end, or does not end within the space, counts as a mismatch.
 fn typed_part<R: Read>(reader: &mut R) -> Seen {
     let mut text = [0u8; 65536];
-    let input = streams::read_up_to(reader, &mut text);
-    let length = input.count;
-    if input.whole && length < 65536 {
-        return typed_cases::typed_cases(&text[..length]);
+    match streams::read_up_to(reader, &mut text) {
+        Ok(length) if length < 65536 => typed_cases::typed_cases(&text[..length]),
+        _ => {
+            let mut seen = Seen::nothing();
+            seen.expect(false);
+            seen
+        }
     }
-    let mut seen = Seen::nothing();
-    seen.expect(false);
-    seen
 }
 
 // How many random traces, how many damaged files and how many pairs of lists.

@@ -23,9 +23,8 @@ pub fn fail(rt: &HostRuntime, what: &[u8], error: Option<Error>) {
 fn write_report(rt: &HostRuntime, file: &[u8], text: &[u8])
     requires { text.now ≡ report_text file.now }
 {
-    let written = streams::write_whole(&mut io::writer(rt), text);
-    if !written.whole {
-        fail(rt, b"standard output", written.error);
+    if let Err(error) = streams::write_whole(&mut io::writer(rt), text) {
+        fail(rt, b"standard output", error);
     }
 }
 
@@ -40,11 +39,8 @@ fn print_report(rt: &HostRuntime, file: &[u8]) {
 // name, and prints nothing else.
 pub fn report_from<R: Read>(rt: &HostRuntime, reader: &mut R, name: &[u8]) {
     let mut buffer = [0u8; FILE_SIZE];
-    let input = streams::read_up_to(reader, &mut buffer);
-    let count = input.count;
-    if input.whole {
-        print_report(rt, &buffer[..count]);
-        return;
+    match streams::read_up_to(reader, &mut buffer) {
+        Ok(count) => print_report(rt, &buffer[..count]),
+        Err(stopped) => fail(rt, name, stopped.error),
     }
-    fail(rt, name, input.error);
 }
