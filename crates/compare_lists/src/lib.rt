@@ -10,9 +10,7 @@ use test_memory::TwoLists;
 // How many numbers the table has, a row for each operation; of a refused file 128, so that memory is lent.
 fn table_size(reading: Due) -> usize {
     match reading {
-        Ok([workers, operations, _, _]) => {
-            test_memory::product(operations as usize, workers as usize)
-        }
+        Ok(counts) => test_memory::product(counts[1] as usize, counts[0] as usize),
         Err(_) => 128,
     }
 }
@@ -53,6 +51,7 @@ pub fn table_calls(seen: &mut Seen, file: &[u8], judgement: &Judgement) {
 // The race list
 
 // The races that are due, and how many there are; of a refused file 20, so that lists are lent.
+#[derive(Clone, Copy)]
 struct Races {
     due: TwoLists<RACES>,
     count: usize,

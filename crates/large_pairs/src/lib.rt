@@ -74,12 +74,12 @@ fn runs_call(seen: &mut Seen, file: &[u8], a: usize, b: usize, order: Option<Ord
 fn pair_call(seen: &mut Seen, file: &[u8], rows: &Rows<'_>, a: usize, b: usize) {
     let answer = answers::order_answer(file, test_memory::number(a), test_memory::number(b));
     if a == b {
-        let due = Err(Question::Different.at(0));
+        let due: Due = Err(Question::Different.at(0));
         seen.compare(Some(answer), due.into(), true);
         return;
     }
     let order = step_by_step::order_of(file, a, b);
-    let due = Ok([outcomes::order_value(order), 0, 0, 0]);
+    let due: Due = Ok([outcomes::order_value(order), 0, 0, 0]);
     seen.compare(Some(answer), due.into(), rows.order(a, b) == order);
     let apart = plain_file::worker_of(file, a) != plain_file::worker_of(file, b);
     seen.note_order(order, apart, plain_file::conflict(file, a, b));
@@ -111,7 +111,7 @@ fn conflict_call(seen: &mut Seen, file: &[u8], rows: &Rows<'_>, from: usize, to:
 pub fn pair_calls(seen: &mut Seen, file: &[u8], rows: &Rows<'_>, seed: u64) {
     let n = plain_file::operations(file) as u64;
     let past = answers::order_answer(file, n as u32, 0);
-    let past_due = Err(Question::InTrace.at(0));
+    let past_due: Due = Err(Question::InTrace.at(0));
     seen.compare(Some(past), past_due.into(), true);
     let mut state = seed;
     for _ in 0..PAIRS {
