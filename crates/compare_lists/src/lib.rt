@@ -90,8 +90,7 @@ fn race_call(
     let due = races_due(of_table, races.count, sizes);
     let answer = answers::races_answer(file, &mut table, &mut lists, sizes);
     let written = if due.is_ok() { races.count } else { 0 };
-    let memory =
-        table_holds(&table, judgement, of_table) && lists.hold(&races.due, written);
+    let memory = table_holds(&table, judgement, of_table) && lists.hold(&races.due, written);
     seen.compare(answer, due.into(), memory);
 }
 
@@ -101,7 +100,11 @@ fn race_sizes(size: usize, races: usize) -> [[usize; 3]; 5] {
     let more = races.saturating_add(2);
     [
         [size, races, races],
-        [size.saturating_add(3), races.saturating_add(4), races.saturating_add(6)],
+        [
+            size.saturating_add(3),
+            races.saturating_add(4),
+            races.saturating_add(6),
+        ],
         [size, less, more],
         [size.saturating_add(1), races, less],
         [size.saturating_sub(1), less, less],

@@ -158,7 +158,11 @@ fn pair_call(seen: &mut Seen, pair: Pair<'_>, judgement: &Judgement) {
     seen.compare(Some(answer), pair.order.into(), true);
     if pair.order.is_ok() {
         let apart = plain_file::worker_of(file, a) != plain_file::worker_of(file, b);
-        seen.note_order(judgement.order(a, b), apart, plain_file::conflict(file, a, b));
+        seen.note_order(
+            judgement.order(a, b),
+            apart,
+            plain_file::conflict(file, a, b),
+        );
     }
     pair.call(seen);
 }

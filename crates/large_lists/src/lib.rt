@@ -44,21 +44,14 @@ impl<'a> Case<'a> {
         let answer = answers::races_answer(self.file, &mut rows, &mut lists, sizes);
         let written = if due.is_ok() { self.races } else { 0 };
         let table = self.table;
-        let memory =
-            lists.hold(self.lists, written) && test_memory::holds(&rows, table, self.size);
+        let memory = lists.hold(self.lists, written) && test_memory::holds(&rows, table, self.size);
         seen.compare(answer, due.into(), memory);
     }
 }
 
 // Lists that just fit, or that are as long as can be where there are very many races, and lists that are too short. Of
 // the table `size` numbers are due.
-pub fn race_calls(
-    seen: &mut Seen,
-    file: &[u8],
-    reading: Due,
-    table: &[u16; TABLE],
-    size: usize,
-) {
+pub fn race_calls(seen: &mut Seen, file: &[u8], reading: Due, table: &[u16; TABLE], size: usize) {
     let mut lists = TwoLists::zeros();
     let races = Rows::new(file, table).put_races(&mut lists);
     let room = races.min(LIST);
@@ -105,7 +98,11 @@ pub fn short_calls(seen: &mut Seen, file: &[u8], size: usize) {
     let rows_due: Due = Err(Question::TableSpace.at(0));
     let canonical_due: Due = Err(Question::OutputSpace.at(0));
     seen.compare(rows, rows_due.into(), test_memory::untouched(&table));
-    seen.compare(canonical, canonical_due.into(), test_memory::untouched(&output));
+    seen.compare(
+        canonical,
+        canonical_due.into(),
+        test_memory::untouched(&output),
+    );
 }
 
 // Refused files

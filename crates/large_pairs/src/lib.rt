@@ -14,7 +14,11 @@ const PAIRS: usize = 8;
 
 // Does a stand in the list, and b not before it?
 fn stands_first(list: &[u16], a: usize, b: usize) -> bool {
-    match list.iter().map(|x| usize::from(*x)).find(|x| *x == a || *x == b) {
+    match list
+        .iter()
+        .map(|x| usize::from(*x))
+        .find(|x| *x == a || *x == b)
+    {
         Some(x) => x == a,
         None => false,
     }
@@ -89,13 +93,17 @@ fn pair_call(seen: &mut Seen, file: &[u8], rows: &Rows<'_>, a: usize, b: usize) 
 // The first operation from b on, going round, that is another than a and in conflict with it, if there is one.
 fn partner(file: &[u8], a: usize, b: usize) -> Option<usize> {
     let n = plain_file::operations(file);
-    (0..n).map(|i| (b % 1024 + i) % n).find(|x| *x != a && plain_file::conflict(file, a, *x))
+    (0..n)
+        .map(|i| (b % 1024 + i) % n)
+        .find(|x| *x != a && plain_file::conflict(file, a, *x))
 }
 
 // The first operation from a on, going round, that has a partner, if there is one.
 fn with_partner(file: &[u8], a: usize) -> Option<usize> {
     let n = plain_file::operations(file);
-    (0..n).map(|i| (a % 1024 + i) % n).find(|x| partner(file, *x, 0).is_some())
+    (0..n)
+        .map(|i| (a % 1024 + i) % n)
+        .find(|x| partner(file, *x, 0).is_some())
 }
 
 // A pair in conflict, where there is one.
