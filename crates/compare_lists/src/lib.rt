@@ -10,9 +10,7 @@ use test_memory::TwoLists;
 // How many numbers the table has, a row for each operation; of a refused file 128, so that memory is lent.
 fn table_size(reading: Due) -> usize {
     match reading {
-        Ok([workers, operations, _, _]) => {
-            test_memory::product(operations as usize, workers as usize)
-        }
+        Ok(counts) => test_memory::product(counts[1] as usize, counts[0] as usize),
         Err(_) => 128,
     }
 }
@@ -53,6 +51,7 @@ pub fn table_calls(seen: &mut Seen, file: &[u8], judgement: &Judgement) {
 // The race list
 
 // The races that are due, and how many there are; of a refused file 20, so that lists are lent.
+#[derive(Clone, Copy)]
 struct Races {
     due: TwoLists<RACES>,
     count: usize,
@@ -91,8 +90,7 @@ fn race_call(
     let due = races_due(of_table, races.count, sizes);
     let answer = answers::races_answer(file, &mut table, &mut lists, sizes);
     let written = if due.is_ok() { races.count } else { 0 };
-    let memory =
-        table_holds(&table, judgement, of_table) && lists.hold(&races.due, written);
+    let memory = table_holds(&table, judgement, of_table) && lists.hold(&races.due, written);
     seen.compare(answer, due.into(), memory);
 }
 
@@ -102,7 +100,11 @@ fn race_sizes(size: usize, races: usize) -> [[usize; 3]; 5] {
     let more = races.saturating_add(2);
     [
         [size, races, races],
-        [size.saturating_add(3), races.saturating_add(4), races.saturating_add(6)],
+        [
+            size.saturating_add(3),
+            races.saturating_add(4),
+            races.saturating_add(6),
+        ],
         [size, less, more],
         [size.saturating_add(1), races, less],
         [size.saturating_sub(1), less, less],

@@ -158,7 +158,11 @@ fn pair_call(seen: &mut Seen, pair: Pair<'_>, judgement: &Judgement) {
     seen.compare(Some(answer), pair.order.into(), true);
     if pair.order.is_ok() {
         let apart = plain_file::worker_of(file, a) != plain_file::worker_of(file, b);
-        seen.note_order(judgement.order(a, b), apart, plain_file::conflict(file, a, b));
+        seen.note_order(
+            judgement.order(a, b),
+            apart,
+            plain_file::conflict(file, a, b),
+        );
     }
     pair.call(seen);
 }
@@ -167,7 +171,7 @@ fn pair_call(seen: &mut Seen, pair: Pair<'_>, judgement: &Judgement) {
 // numbers up to 1, and buffers for 8. `way` decides on the sizes of the buffers.
 pub fn pair_calls(seen: &mut Seen, file: &[u8], judgement: &Judgement, way: usize) {
     let (most, n) = match judgement.reading {
-        Ok([_, count, _, _]) => (count as usize, count as usize),
+        Ok(values) => (values[1] as usize, values[1] as usize),
         Err(_) => (1, 8),
     };
     for i in 0..81 {

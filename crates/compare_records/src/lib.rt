@@ -91,7 +91,8 @@ pub fn compare_calls(seen: &mut Seen, file: &[u8], size: usize, room: usize) {
         return;
     };
     let written = due.values[2] as usize;
-    let memory =
-        rows == table && lists_given.hold(&lists, written) && lists.untouched_from(written);
+    let memory = rows == table
+        && lists_given.hold(&lists, written)
+        && lists.untouched_from(written);
     note_calls(seen, given, due, memory);
 }

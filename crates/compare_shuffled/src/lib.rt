@@ -34,7 +34,11 @@ fn note_same(seen: &mut Seen, answer: Option<Answer>, other: Option<Answer>, agr
 // Is the pair, in either order, in the two lists?
 fn has_race(lists: &TwoLists<LIST>, x: u16, y: u16) -> bool {
     let race = (x.min(y), x.max(y));
-    lists.first.iter().zip(lists.second.iter()).any(|(a, b)| (*a, *b) == race)
+    lists
+        .first
+        .iter()
+        .zip(lists.second.iter())
+        .any(|(a, b)| (*a, *b) == race)
 }
 
 impl<'a> Shuffled<'a> {
@@ -59,8 +63,9 @@ impl<'a> Shuffled<'a> {
         let answer = answers::table_answer(self.file, &mut table, TABLE);
         let other_answer = answers::table_answer(self.other, &mut other, TABLE);
         let p = plain_file::workers(self.file);
-        let agree = (0..plain_file::operations(self.file))
-            .all(|k| self.row_agrees(&table, &other, k, p));
+        let agree = (0..plain_file::operations(self.file)).all(|k| self.row_agrees(
+            &table, &other, k, p,
+        ));
         note_same(seen, answer, other_answer, agree);
     }
 
@@ -70,7 +75,11 @@ impl<'a> Shuffled<'a> {
     fn run_agrees(&self, list: &[u16], other: &[u16], n: usize) -> bool {
         n <= list.len()
             && n <= other.len()
-            && list.iter().zip(other.iter()).take(n).all(|(x, y)| self.new_number(*x) == *y)
+            && list
+                .iter()
+                .zip(other.iter())
+                .take(n)
+                .all(|(x, y)| self.new_number(*x) == *y)
     }
 
     // The order of two operations, and their two runs.
@@ -107,12 +116,11 @@ impl<'a> Shuffled<'a> {
     // Is each of the first n races one of the other file's?
     fn races_agree(&self, lists: &TwoLists<LIST>, other: &TwoLists<LIST>, n: usize) -> bool {
         n <= LIST
-            && lists
-                .first
-                .iter()
-                .zip(lists.second.iter())
-                .take(n)
-                .all(|(a, b)| has_race(other, self.new_number(*a), self.new_number(*b)))
+            && lists.first.iter().zip(lists.second.iter()).take(n).all(|(a, b)| has_race(
+                other,
+                self.new_number(*a),
+                self.new_number(*b),
+            ))
     }
 
     fn compare_races(&self, seen: &mut Seen) {

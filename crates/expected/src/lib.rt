@@ -67,7 +67,10 @@ fn has_shared_event(rules: &Rules) -> bool {
 
 // Is each of the sets the largest run without its operation, and `whole` the largest run?
 fn are_largest(search: &Search, largest: [Set; 8], whole: Set) -> bool {
-    let contained = largest.iter().enumerate().all(|(a, set)| search.contains_runs(Some(a), *set));
+    let contained = largest
+        .iter()
+        .enumerate()
+        .all(|(a, set)| search.contains_runs(Some(a), *set));
     contained && search.contains_runs(None, whole)
 }
 
@@ -75,7 +78,9 @@ fn are_largest(search: &Search, largest: [Set; 8], whole: Set) -> bool {
 fn reading_of(file: &[u8], search: &Search, whole: Set) -> Due {
     let count = plain_file::operations(file);
     if search.complete == 0 {
-        let outside = (0..count.min(8)).find(|x| !whole.has(*x)).unwrap_or(count.min(8));
+        let outside = (0..count.min(8))
+            .find(|x| !whole.has(*x))
+            .unwrap_or(count.min(8));
         return Err(Question::CompleteRun.at(test_memory::number(outside)));
     }
     let workers = test_memory::number(plain_file::workers(file));
@@ -145,8 +150,8 @@ impl Judgement {
 
 // The next operation of worker q, the first of its operations that is not done, if there is one.
 fn next_of(file: &[u8], done: Set, q: usize) -> Option<usize> {
-    (0..plain_file::operations(file))
-        .find(|x| plain_file::worker_of(file, *x) == q && !done.has(*x))
+    (0..plain_file::operations(file)).find(|x| plain_file::worker_of(file, *x) == q
+        && !done.has(*x))
 }
 
 // The next operation of the lowest-numbered worker whose next operation may run, other than `held`, if there is one.

@@ -154,7 +154,9 @@ pub fn large_trace(file: &mut [u8], form: Form, seed: u64) -> usize {
 // The first worker from q on, going round, with an operation left, of those that have their next operation there.
 fn worker_left(file: &[u8], left: &[usize; 16], q: usize) -> Option<usize> {
     let count = plain_file::operations(file);
-    (q..q.saturating_add(16)).map(|at| at % 16).find(|at| left[*at % 16] < count)
+    (q..q.saturating_add(16))
+        .map(|at| at % 16)
+        .find(|at| left[*at % 16] < count)
 }
 
 // Writes the records of the file in another order, in which those of each worker stand as before; and for each

@@ -43,21 +43,15 @@ impl<'a> Case<'a> {
         let due = races_due(self.reading, self.races, room);
         let answer = answers::races_answer(self.file, &mut rows, &mut lists, sizes);
         let written = if due.is_ok() { self.races } else { 0 };
-        let memory = lists.hold(self.lists, written)
-            && test_memory::holds(&rows, self.table, self.size);
+        let table = self.table;
+        let memory = lists.hold(self.lists, written) && test_memory::holds(&rows, table, self.size);
         seen.compare(answer, due.into(), memory);
     }
 }
 
 // Lists that just fit, or that are as long as can be where there are very many races, and lists that are too short. Of
 // the table `size` numbers are due.
-pub fn race_calls(
-    seen: &mut Seen,
-    file: &[u8],
-    reading: Due,
-    table: &[u16; TABLE],
-    size: usize,
-) {
+pub fn race_calls(seen: &mut Seen, file: &[u8], reading: Due, table: &[u16; TABLE], size: usize) {
     let mut lists = TwoLists::zeros();
     let races = Rows::new(file, table).put_races(&mut lists);
     let room = races.min(LIST);
@@ -84,7 +78,7 @@ pub fn tidy_call(seen: &mut Seen, file: &[u8], reading: Due) {
     plain_file::tidy_file(file, &mut tidy);
     test_memory::fill(&mut output);
     let answer = answers::canonical_answer(file, &mut output, size);
-    let due = Ok([test_memory::number(size), 0, 0, 0]);
+    let due: Due = Ok([test_memory::number(size), 0, 0, 0]);
     seen.compare(answer, due.into(), test_memory::holds(&output, &tidy, size));
     if let Some(written) = output.get(..size) {
         seen.compare(Some(answers::accept_answer(written)), reading.into(), true);
@@ -101,10 +95,14 @@ pub fn short_calls(seen: &mut Seen, file: &[u8], size: usize) {
     test_memory::fill(&mut output);
     let rows = answers::table_answer(file, &mut table, size.saturating_sub(1));
     let canonical = answers::canonical_answer(file, &mut output, file.len().saturating_sub(1));
-    let rows_due = Err(Question::TableSpace.at(0));
-    let canonical_due = Err(Question::OutputSpace.at(0));
+    let rows_due: Due = Err(Question::TableSpace.at(0));
+    let canonical_due: Due = Err(Question::OutputSpace.at(0));
     seen.compare(rows, rows_due.into(), test_memory::untouched(&table));
-    seen.compare(canonical, canonical_due.into(), test_memory::untouched(&output));
+    seen.compare(
+        canonical,
+        canonical_due.into(),
+        test_memory::untouched(&output),
+    );
 }
 
 // Refused files

@@ -14,7 +14,11 @@ const PAIRS: usize = 8;
 
 // Does a stand in the list, and b not before it?
 fn stands_first(list: &[u16], a: usize, b: usize) -> bool {
-    match list.iter().map(|x| usize::from(*x)).find(|x| *x == a || *x == b) {
+    match list
+        .iter()
+        .map(|x| usize::from(*x))
+        .find(|x| *x == a || *x == b)
+    {
         Some(x) => x == a,
         None => false,
     }
@@ -74,12 +78,12 @@ fn runs_call(seen: &mut Seen, file: &[u8], a: usize, b: usize, order: Option<Ord
 fn pair_call(seen: &mut Seen, file: &[u8], rows: &Rows<'_>, a: usize, b: usize) {
     let answer = answers::order_answer(file, test_memory::number(a), test_memory::number(b));
     if a == b {
-        let due = Err(Question::Different.at(0));
+        let due: Due = Err(Question::Different.at(0));
         seen.compare(Some(answer), due.into(), true);
         return;
     }
     let order = step_by_step::order_of(file, a, b);
-    let due = Ok([outcomes::order_value(order), 0, 0, 0]);
+    let due: Due = Ok([outcomes::order_value(order), 0, 0, 0]);
     seen.compare(Some(answer), due.into(), rows.order(a, b) == order);
     let apart = plain_file::worker_of(file, a) != plain_file::worker_of(file, b);
     seen.note_order(order, apart, plain_file::conflict(file, a, b));
@@ -89,13 +93,17 @@ fn pair_call(seen: &mut Seen, file: &[u8], rows: &Rows<'_>, a: usize, b: usize) 
 // The first operation from b on, going round, that is another than a and in conflict with it, if there is one.
 fn partner(file: &[u8], a: usize, b: usize) -> Option<usize> {
     let n = plain_file::operations(file);
-    (0..n).map(|i| (b % 1024 + i) % n).find(|x| *x != a && plain_file::conflict(file, a, *x))
+    (0..n)
+        .map(|i| (b % 1024 + i) % n)
+        .find(|x| *x != a && plain_file::conflict(file, a, *x))
 }
 
 // The first operation from a on, going round, that has a partner, if there is one.
 fn with_partner(file: &[u8], a: usize) -> Option<usize> {
     let n = plain_file::operations(file);
-    (0..n).map(|i| (a % 1024 + i) % n).find(|x| partner(file, *x, 0).is_some())
+    (0..n)
+        .map(|i| (a % 1024 + i) % n)
+        .find(|x| partner(file, *x, 0).is_some())
 }
 
 // A pair in conflict, where there is one.
@@ -111,7 +119,7 @@ fn conflict_call(seen: &mut Seen, file: &[u8], rows: &Rows<'_>, from: usize, to:
 pub fn pair_calls(seen: &mut Seen, file: &[u8], rows: &Rows<'_>, seed: u64) {
     let n = plain_file::operations(file) as u64;
     let past = answers::order_answer(file, n as u32, 0);
-    let past_due = Err(Question::InTrace.at(0));
+    let past_due: Due = Err(Question::InTrace.at(0));
     seen.compare(Some(past), past_due.into(), true);
     let mut state = seed;
     for _ in 0..PAIRS {

@@ -87,12 +87,7 @@ fn large_case(seen: &mut Seen, seed: u64) {
 }
 
 // Traces of up to eight operations, damaged files, and large traces, so many of each.
-fn random_cases(
-    small: &mut Seen,
-    damaged: &mut Seen,
-    large: &mut Seen,
-    count: usize,
-) {
+fn random_cases(small: &mut Seen, damaged: &mut Seen, large: &mut Seen, count: usize) {
     let mut seed: u64 = 31;
     for _ in 0..count {
         seed = random_files::next(seed);

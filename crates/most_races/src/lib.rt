@@ -2,7 +2,7 @@
 #![tactic(auto)]
 
 use compare_records::{Call, TABLE};
-use outcomes::{Due, Question, Seen};
+use outcomes::{Answer, Due, Question, Seen};
 use test_files::{Fields, Form, Kind};
 use test_memory::TwoLists;
 
@@ -60,7 +60,7 @@ fn most_call(seen: &mut Seen, call: Call, file: &[u8], table: &mut [u16], room: 
         second: [0; ALL],
     };
     lists.fill();
-    let due = most_due(room).into();
+    let due = Answer::from(most_due(room));
     let given = call.answer(file, table, TABLE, &mut lists, room);
     let memory = hold_most(&lists, due.values[2] as usize);
     match call {

@@ -112,7 +112,13 @@ pub fn random_trace(file: &mut [u8], form: Form, seed: u64) -> usize {
     let third = next(second);
     let fourth = next(third);
     let count = below(seed, 12).min(8);
-    let ways = [Way::Alike, Way::Events, Way::Accesses, Way::Writes, Way::InTurn];
+    let ways = [
+        Way::Alike,
+        Way::Events,
+        Way::Accesses,
+        Way::Writes,
+        Way::InTurn,
+    ];
     let style = Style {
         workers: below(second, 4) + 1,
         pool: below(third, 60),

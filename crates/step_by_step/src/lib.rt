@@ -99,7 +99,10 @@ impl<'a> Run<'a> {
 
     // Can the next operation of some worker below q run, other than `held`?
     fn can_run_below(&self, q: usize, held: usize) -> bool {
-        self.next.iter().take(q).any(|x| *x != held && self.may_follow(*x))
+        self.next
+            .iter()
+            .take(q)
+            .any(|x| *x != held && self.may_follow(*x))
     }
 
     // Is x the next operation of the lowest-numbered worker whose next operation may run, other than `held`?

@@ -75,7 +75,7 @@ fn reading_case(seen: &mut Seen, bytes: &[u8], size: usize, due: Answer) {
 // What is due from reading: the refusal by that number, or the counts where it is 0.
 fn reading_due(number: u32, place: u32, workers: u32, operations: u32) -> Answer {
     if number == 0 {
-        return Ok([workers, operations, 0, 0]).into();
+        return Answer::from(Ok([workers, operations, 0, 0]));
     }
     Answer {
         number: refusal_number(number),
