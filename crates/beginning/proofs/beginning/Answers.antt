@@ -15,19 +15,6 @@ pub slice_bounds-result-end : goal.slice_bounds-result-end
 slice_bounds-result-end c =
     prefix-fits _ _ _ _ (sym c.which_prefix.ensures ∙ c.in-OfFirst.is)
 
-pub returns-then-length-gt0 : goal.returns-then-length-gt0
-returns-then-length-gt0 c =
-    call-first _ _ _ _ (sym c.which_prefix.ensures ∙ c.in-OfFirst.is)
-
 pub slice_bounds-result-end-in-OfSecond : goal.slice_bounds-result-end-in-OfSecond
 slice_bounds-result-end-in-OfSecond c =
     prefix-fits _ _ _ _ (sym c.which_prefix.ensures ∙ c.in-OfSecond.is)
-
-pub returns-else-length-gt0 : goal.returns-else-length-gt0
-returns-else-length-gt0 c =
-    let given = sym c.which_prefix.ensures ∙ c.in-OfFirst.is in
-    call-first _ _ _ _ (given ∙ ap OfFirst (none_left _ c.if-length-gt0.false))
-
-pub returns-in-OfSecond : goal.returns-in-OfSecond
-returns-in-OfSecond c =
-    call-second _ _ _ _ (sym c.which_prefix.ensures ∙ c.in-OfSecond.is)

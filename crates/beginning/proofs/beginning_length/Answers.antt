@@ -6,12 +6,6 @@ use Rattle.beginning.proofs.Lengths.{searched-all, searched-other, searched-past
 use Rattle.beginning.proofs.Lengths.{searched-found, searched-without}
 use Rattle.beginning.proofs.beginning_length.Goals as goal
 
-pub skip-rest-requires : goal.skip-rest-requires
-skip-rest-requires c = record { x_later = omega arith; y_later = omega arith }
-
-pub loop-i-init : goal.loop-i-init
-loop-i-init c = c.skip-rest.ensures
-
 pub returns-then-x-other-clause-length : goal.returns-then-x-other-clause-length
 returns-then-x-other-clause-length c =
     searched-other c.loop-i.invariant c.loop-i-test.true (sym c.from-x.ensures ∙ c.if-x-other.true)

@@ -5,12 +5,6 @@ use native.Mathlib.Omega.{arith}
 use Rattle.beginning.proofs.Indices.{index-later, index-here, index-fits}
 use Rattle.beginning.proofs.first_index.Goals as goal
 
-pub skip-rest-requires : goal.skip-rest-requires
-skip-rest-requires c = record { x_later = c.requires; y_later = c.requires }
-
-pub loop-i-init : goal.loop-i-init
-loop-i-init c = c.skip-rest.ensures.x_later
-
 pub returns-then-from-x : goal.returns-then-from-x
 returns-then-from-x c =
     index-here _ _ _ c.loop-i.invariant c.loop-i-test.true (sym c.from.ensures ∙ c.if-from-x.true)

@@ -18,6 +18,3 @@ loop-k-preserved c =
     let k = c.loop-k.k in
     list-more c.loop-k.invariant
     (ap (λ l. get_or l k 0) c.to_le_bytes-bytes.ensures ∙ word-byte c.args.x k c.loop-k-test.true) c.list_byte-end.ensures
-
-pub returns : goal.returns
-returns c = list-end c.loop-k.invariant c.loop-k-test.false c.loop-k.auto.k-end
