@@ -6,7 +6,7 @@ use Rattle.std.specs.Prelude.{ℤ, Result, Ok, Err}
 use Rattle.trace.specs.declared.Counts.{Counts}
 use Rattle.trace.specs.declared.Refusal.{Refusal}
 use Rattle.trace.specs.Answer.{Refused}
-use Rattle.races.specs.declared.Races.{Races}
+use Rattle.races.specs.declared.answer.Races.{Races}
 use Rattle.beginning.specs.declared.Prefix.{Prefix}
 use Rattle.beginning.specs.declared.Prefix.TheVariants.{OfFirst, OfSecond}
 use Rattle.c_results.specs.Reading.{accept_read, table_read, order_read, runs_read, races_read, canonical_read}

@@ -5,7 +5,7 @@
 use Rattle.std.specs.Prelude.{ℕ, zero, suc}
 use Rattle.std.specs.Prelude.{Result}
 use Rattle.trace.specs.declared.Counts.{Counts}
-use Rattle.races.specs.declared.Races.{Races}
+use Rattle.races.specs.declared.answer.Races.{Races}
 use Rattle.trace.specs.declared.Refusal.{Refusal}
 use Rattle.trace.specs.Answer.{Refused}
 use Rattle.accept.specs.Acceptance.{Accepted}

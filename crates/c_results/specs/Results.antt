@@ -5,7 +5,7 @@
 use Rattle.std.specs.Prelude.{pos, ℕ, ℤ, Result, Ok, Err}
 use Rattle.trace.specs.declared.Counts.{Counts}
 use Rattle.trace.specs.declared.Refusal.{Refusal}
-use Rattle.races.specs.declared.Races.{Races}
+use Rattle.races.specs.declared.answer.Races.{Races}
 use Rattle.beginning.specs.declared.Prefix.{Prefix}
 use Rattle.beginning.specs.declared.Prefix.TheVariants.{OfFirst, OfSecond}
 use Rattle.c_results.specs.declared.accept_result.AcceptResult.{AcceptResult}

@@ -15,7 +15,7 @@ use Rattle.accept.specs.Acceptance.{AcceptedTrace, accept_answer}
 use Rattle.accept.specs.Acceptance as accept
 use Rattle.std.specs.Prelude.{Result}
 use Rattle.trace.specs.declared.Counts.{Counts}
-use Rattle.races.specs.declared.Races.{Races}
+use Rattle.races.specs.declared.answer.Races.{Races}
 use Rattle.trace.specs.declared.Refusal.{Refusal}
 use Rattle.trace.specs.Answer.{Refused}
 use Rattle.races.specs.Races.{Listed}

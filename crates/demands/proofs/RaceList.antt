@@ -13,7 +13,7 @@ use types.Logic.{Logic}
 use prog.Memory.{Memory}
 use prog.Routine.{Routine}
 use Rattle.std.specs.Prelude.{Result}
-use Rattle.races.specs.declared.Races.{Races}
+use Rattle.races.specs.declared.answer.Races.{Races}
 use Rattle.trace.specs.declared.Refusal.{Refusal}
 use Rattle.race_list.specs.Listing.{ListCall}
 use Rattle.race_list.specs.contracts.race_list as race-list

@@ -7,7 +7,7 @@ use Rattle.trace.specs.Trace.{Trace, size}
 use Rattle.model.specs.Computed.{pair_order}
 use Rattle.std.specs.Prelude.{Result}
 use Rattle.trace.specs.declared.Counts.{Counts}
-use Rattle.races.specs.declared.Races.{Races}
+use Rattle.races.specs.declared.answer.Races.{Races}
 use Rattle.trace.specs.declared.Refusal.{Refusal}
 use Rattle.trace.specs.Answer.{Refused}
 use Rattle.accept.specs.Acceptance.{Accepted}

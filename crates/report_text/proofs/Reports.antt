@@ -10,7 +10,7 @@ use Rattle.trace.specs.Trace.{Trace}
 use Rattle.race_model.specs.RaceList.{race_list, race_count}
 use Rattle.lent.proofs.Writing.{written-length}
 use Rattle.std.specs.Prelude.{Result}
-use Rattle.races.specs.declared.Races.{Races}
+use Rattle.races.specs.declared.answer.Races.{Races}
 use Rattle.trace.specs.declared.Refusal.{Refusal}
 use Rattle.races.specs.Races.{races_reading, races_answer, race_records, to_write, shorter, RacesCall}
 use Rattle.races.specs.Refusals.{AcceptedRaces}

@@ -1,10 +1,10 @@
 -- What the inner functions know and do.
 -- Follows: document 01, "Report program"; the room for a line, by the widths of its numbers.
 -- Differs: nowhere. Means: the call's contract speaks of none of these.
-use Rattle.std.specs.Prelude.{List, ℕ, ◌+◌, ◌*◌, ◌≤◌, length, take}
+use Rattle.std.specs.Prelude.{List, ℕ, ◌+◌, ◌*◌, ◌≤◌, length, take, Result, Ok, Err}
 use Rattle.race_model.specs.declared.Race.{Race}
-use Rattle.races.specs.declared.RacesAnswer.{RacesAnswer}
-use Rattle.races.specs.declared.RacesAnswer.TheVariants.{Listed, Refused}
+use Rattle.trace.specs.declared.Refusal.{Refusal}
+use Rattle.races.specs.declared.answer.Races.{Races}
 use Rattle.report_text.specs.ReportText.{listing, refusal}
 
 -- two lists of at least `count` numbers of 16 bits, and room from the place `at` on for the lines of as many races: a
@@ -21,6 +21,6 @@ pub record ListingRoom (output lower higher : List ℕ) (count : ℕ) : Type 0 w
   pub room : 27 + 17 * count + 17 ≤ length output
 
 -- the text of what the race list answers, where `races` are those that the lists hold
-abbrev pub answer_text : RacesAnswer → List Race → List ℕ
-answer_text (Refused q k) races = refusal q k
-answer_text (Listed p n count) races = listing p n (take count races) count
+abbrev pub answer_text : Result Races Refusal → List Race → List ℕ
+answer_text (Err r) races = refusal r.number r.place
+answer_text (Ok found) races = listing found.workers found.operations (take found.races races) found.races

@@ -9,7 +9,8 @@ ghost use Rattle.report_text.specs.Premises.{RaceRoom, ListingRoom, answer_text}
 ghost use Rattle.report_text.specs.ReportText.{race_line, race_lines, listing};
 ghost use Rattle.report_text.specs.ReportText.{ReportCall};
 
-use races::RacesAnswer;
+use races::Races;
+use trace::Refusal;
 
 // How many bytes of a file decide its report: one more than an accepted file can have.
 pub const FILE_SIZE: usize = 10251;
@@ -53,40 +54,35 @@ fn put_race_lines(
     end
 }
 
-// Places the report of an accepted file from the start on, and answers where it ends.
-fn put_listing(
-    output: &mut [u8],
-    workers: u8,
-    operations: u32,
-    lower: &[u16],
-    higher: &[u16],
-    count: u32,
-) -> usize
-    requires { ListingRoom output.old lower.now higher.now count }
+// Places the report of an accepted file, whose races the lists hold, from the start on, and answers where it ends.
+fn put_listing(output: &mut [u8], found: Races, lower: &[u16], higher: &[u16]) -> usize
+    requires { ListingRoom output.old lower.now higher.now found.races }
     ensures { Placed output.old 0
-        (listing workers operations (take count (race_records lower.now higher.now)) count) result
-        output.new }
+        (listing found.workers found.operations (take found.races (race_records lower.now higher.now)) found.races)
+        result output.new }
 {
-    let workers = u32::from(workers);
-    let first = text::put_pair_line(output, 0, b"ops ", operations, b" workers ", workers);
-    let last = put_race_lines(output, first, lower, higher, count as usize);
-    text::put_count_line(output, last, b"races ", count)
+    let workers = u32::from(found.workers);
+    let first = text::put_pair_line(output, 0, b"ops ", found.operations, b" workers ", workers);
+    let last = put_race_lines(output, first, lower, higher, found.races as usize);
+    text::put_count_line(output, last, b"races ", found.races)
 }
 
 // Places the text of what the race list answered from the start on, and answers where it ends.
-fn put_answer(output: &mut [u8], answer: RacesAnswer, lower: &[u16], higher: &[u16]) -> usize
+fn put_answer(
+    output: &mut [u8],
+    answer: Result<Races, Refusal>,
+    lower: &[u16],
+    higher: &[u16],
+) -> usize
     requires { ListingRoom output.old lower.now higher.now (to_write answer) }
     ensures { Placed output.old 0
         (answer_text answer (race_records lower.now higher.now)) result output.new }
 {
     match answer {
-        RacesAnswer::Listed {
-            workers,
-            operations,
-            races,
-        } => put_listing(output, workers, operations, lower, higher, races),
-        RacesAnswer::Refused { number, place } => {
-            text::put_pair_line(output, 0, b"refused ", number as u32, b" ", place)
+        Ok(found) => put_listing(output, found, lower, higher),
+        Err(refusal) => {
+            let number = u32::from(refusal.number);
+            text::put_pair_line(output, 0, b"refused ", number, b" ", refusal.place)
         }
     }
 }
