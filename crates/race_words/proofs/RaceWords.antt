@@ -15,7 +15,7 @@ use Rattle.words.proofs.Sets.{all_in}
 use Rattle.model.specs.Computed.{unordered_in}
 use Rattle.conflicts.specs.Conflict.{in_conflict}
 use Rattle.conflicts.specs.Cells.{place, met_at, marked, CellsHold, ConflictsIn}
-use Rattle.conflicts.proofs.Cells.{held_first, held-last, held-met}
+use Rattle.conflicts.proofs.CellTests.{held_first, held-last, held-met}
 use Rattle.meetings.specs.Meetings.{is_noted}
 use Rattle.unordered.specs.Kept.{held}
 use Rattle.race_model.specs.RaceList.{is_race}

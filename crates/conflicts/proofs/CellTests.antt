@@ -1,5 +1,5 @@
--- The test by the array is `in_conflict`. In order: bits; places in the array; the cells of an operation; two operations
--- in conflict, by their cells; by what the array holds of them.
+-- The test by the arrays is `in_conflict`. In order: bits; places in the arrays; the cells of an operation; two operations
+-- in conflict, by their cells; by what the arrays hold of them.
 use mathlib.Core.Bool.{Bool, true, false, ◌&&◌, ◌||◌, and_comm, and-false, true≢false}
 use mathlib.Core.List.{List}
 use mathlib.Core.Logic.{inl, inr, ◌≢◌}
@@ -13,13 +13,14 @@ use lib.ListN.{get_or}
 use borrow.Author.Tests.{leb-true, le-leb, lt-leb, le-ltb, lt-ltb}
 use Rattle.basics.proofs.Booleans.{test-true, both_true, never-passes, less?}
 use Rattle.trace.specs.declared.Operation.{Operation}
-use Rattle.trace.specs.Reading.{reads, file_reading, trace_of}
+use Rattle.trace.specs.Premises.{HoldsTrace}
+use Rattle.trace.specs.Reading.{trace_of}
 use Rattle.trace.specs.Trace.{Trace, size, operation, is_write, is_access}
-use Rattle.trace.proofs.Answers.{file-holds}
 use Rattle.conflicts.specs.Intervals.{overlap}
 use Rattle.conflicts.specs.Conflict.{in_conflict}
 use Rattle.words.specs.Words.{is_in}
 use Rattle.conflicts.specs.Cells.{bit, first_cell, last_cell, CellsFit, place, CellsHold, meet, met_at, ConflictsIn}
+use Rattle.conflicts.specs.declared.Cells.{Cells}
 
 -- ---- bits
 
@@ -29,7 +30,7 @@ bit-and true false = refl
 bit-and false true = refl
 bit-and false false = refl
 
--- ---- places in the array
+-- ---- places in the arrays
 
 pub place-below : (k : ℕ) → k < 1024 → place k < 1024
 unfolding place
@@ -100,14 +101,9 @@ module _ {o : Operation} (h : CellsFit o) where
       omega (arith, some, first, last, l))
 
 -- of an operation of a file that reads as a trace, whose length has two bytes
-module _ (bytes : List ℕ) (e : file_reading bytes ≡ reads (trace_of bytes)) where
-  pub file-few : size (trace_of bytes) ≤ 1024
-  file-few = (file-holds bytes (trace_of bytes) e).few
-
-  pub operation-fits : {k : ℕ} {o : Operation} → k < size (trace_of bytes) → o ≡ operation (trace_of bytes) k
-      → o.length < 65536 → CellsFit o
-  operation-fits {k} l i s =
-      record { cells = rw i ((file-holds bytes (trace_of bytes) e).each k l).cells; short = s }
+pub operation-fits : {bytes : List ℕ} {p n k : ℕ} {o : Operation} → HoldsTrace bytes p n → k < n
+    → o ≡ operation (trace_of bytes) k → o.length < 65536 → CellsFit o
+operation-fits {k = k} h l i s = record { cells = rw i (h.each k l).cells; short = s }
 
 -- ---- two operations in conflict, by their cells
 
@@ -156,13 +152,13 @@ module _ {x y : Operation} (h : CellsFit x) (i : CellsFit y) where
       go true false e f = rw (e, f, meets-not (rw (e, f))) (and-false (is_write x.kind || is_write y.kind))
       go false s e f = rw (e, meets-not (rw e)) (and-false (is_write x.kind || is_write y.kind))
 
--- ---- by what the array holds of them
+-- ---- by what the arrays hold of them
 
-module _ {t : Trace} {cells : List ℕ} (h : CellsHold t cells) {a : ℕ} (l : a < size t) where
-  pub held_first : get_or cells (place a) 0 ≡ first_cell (operation t a)
+module _ {t : Trace} {cells : Cells} (h : CellsHold t cells) {a : ℕ} (l : a < size t) where
+  pub held_first : get_or cells.first (place a) 0 ≡ first_cell (operation t a)
   held_first = (h.each a l).the_first_cell
 
-  pub held-last : get_or cells (1024 + place a) 0 ≡ last_cell (operation t a)
+  pub held-last : get_or cells.last (place a) 0 ≡ last_cell (operation t a)
   held-last = (h.each a l).the_last_cell
 
   -- an operation whose first cell is above its last one is no Read or Write
