@@ -1,7 +1,8 @@
 -- `slot_for` meets its contract. Assumes nothing.
 use mathlib.Core.Path.{sym, ◌∙◌}
+use borrow.Author.Rules.{rules}
 use Rattle.meetings.proofs.Noting.{taken-notes, taken-for, slot_same}
-use Rattle.meetings.proofs.slot_for.Goals as goal
+use Rattle.meetings.proofs.Meetings.slot_for.Goals as goal
 
 pub returns-then-is_for : goal.returns-then-is_for
 returns-then-is_for c = (
@@ -11,7 +12,9 @@ returns-then-is_for c = (
 )
 
 pub returns : goal.returns
-returns c = (
-  taken-notes c.requires.0 c.slot_of-slot.ensures _ _,
-  taken-for c.requires.0 c.slot_of-slot.ensures _ _ c.first_of-first.ensures c.last_of-last.ensures,
-)
+returns c =
+    let s = c.slot_of-slot.ensures in (
+      taken-notes c.requires.0 s _ _ (search rules) (search rules) (search rules),
+      taken-for c.requires.0 s _ _ (search rules) (search rules) (search rules) c.first_of-first.ensures
+          c.last_of-last.ensures,
+    )
