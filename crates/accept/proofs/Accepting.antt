@@ -19,9 +19,9 @@ use Rattle.states.specs.States.{lowest_left}
 use Rattle.states.proofs.Answers.{exhausted-outside}
 use Rattle.courses.specs.Courses.{Opens, Ended}
 use Rattle.courses.proofs.Starting.{listed-opens}
-use Rattle.accept.specs.declared.AcceptAnswer.TheVariants.{Accepted, Refused}
+use Rattle.std.specs.Prelude.{Ok}
+use Rattle.trace.specs.Answer.{Refused, counts_of}
 use Rattle.accept.specs.Acceptance.{acceptance, accept_answer}
-use Rattle.accept.specs.Handing.{HandedOn}
 
 module _ {bytes : List ℕ} {p n : ℕ} (h : HoldsTrace bytes p n) where
   -- ---- the walk
@@ -46,16 +46,10 @@ module _ {bytes : List ℕ} {p n : ℕ} (h : HoldsTrace bytes p n) where
     unfolding acceptance accept_answer
     answer-refused l = rw (h.trace, h.count, ← e) (simp (lt-leb n k l))
 
-    pub answer-accepted : n ≤ k → Accepted p n ≡ accept_answer bytes
+    pub answer-accepted : n ≤ k → Ok (counts_of (trace_of bytes)) ≡ accept_answer bytes
     unfolding acceptance accept_answer
-    answer-accepted l = rw (h.trace, h.count, ← e) (simp (le-leb n k l, h.count, h.workers))
+    answer-accepted l = rw (h.trace, h.count, ← e) (simp (le-leb n k l, h.count))
 
 pub answer-unread : (bytes : List ℕ) {q k : ℕ} → file_reading bytes ≡ refused q k → Refused q k ≡ accept_answer bytes
 unfolding acceptance accept_answer
 answer-unread bytes e = rw e
-
--- nothing is handed on of a file that does not read as a trace
-pub unread-handed : {bytes : List ℕ} {q k : ℕ} (order starts list ends : List ℕ) → file_reading bytes ≡ refused q k
-    → HandedOn bytes order starts list ends
-unread-handed order starts list ends e =
-    record { handed = λ h. let r = h.trace in absurd (zero_one cc) }

@@ -9,19 +9,16 @@ use Rattle.trace.specs.Premises.{HoldsTrace}
 use Rattle.trace.specs.Reading.{refused, reads, file_reading, trace_of}
 use Rattle.trace.specs.Trace.{Trace, size}
 use Rattle.trace.proofs.Answers.{trace-reads}
-use Rattle.trace.proofs.Outcomes.{TellsRefusals, outcome-refused, outcome-reads}
-use Rattle.accept.specs.declared.AcceptAnswer.TheVariants.{Accepted, Refused}
-use Rattle.accept.specs.Acceptance.{acceptance, AcceptedTrace, answer_of, accept_answer}
+use Rattle.trace.proofs.Outcomes.{tells-refusals, outcome-refused, outcome-reads, refuses-nothing, same-counts}
+use Rattle.trace.specs.Answer.{Refused, counts_of}
+use Rattle.accept.specs.Acceptance.{Accepted, acceptance, AcceptedTrace, answer_of, accept_answer}
 use Rattle.accept.specs.Refusals.{RefusedFile}
 use Rattle.accept.proofs.Questions.{accepted-reads, accepted-trace, accepted-holds, refused-file}
 
 module _ (bytes : List ℕ) where
   pub answer-means : (q k : ℕ) → (accept_answer bytes ≡ Refused q k) ↔ (acceptance bytes ≡ refused q k)
   unfolding accept_answer
-  answer-means q k = outcome-refused answer_of tells (acceptance bytes) q k
-    where
-      tells : TellsRefusals answer_of
-      tells = record { apart = λ q k t z. zero_one cc; same = λ q k x y z. cc }
+  answer-means q k = outcome-refused answer_of (tells-refusals _) (acceptance bytes) q k
 
   -- it is the refusal by the first "no"
   pub refused-answer : (q k : ℕ) → (accept_answer bytes ≡ Refused q k) ↔ RefusedFile bytes q k
@@ -32,10 +29,9 @@ module _ (bytes : List ℕ) where
       → AcceptedTrace bytes (trace_of bytes) × HoldsTrace bytes p n
   unfolding accept_answer
   answer-accepts p n a =
-      let (t, e, i) = outcome-reads answer_of (λ q k z. zero_one cc) (acceptance bytes) a in
+      let (t, e, i) = outcome-reads answer_of (refuses-nothing counts_of _) (acceptance bytes) a in
       let accepted : AcceptedTrace bytes t = record { passes = e } in
-      let ep : t.workers ≡ p = cc in
-      let en : size t ≡ n = cc in
+      let (ep, en) = same-counts t i in
       (rw (accepted-trace accepted) accepted, rw (ep, en) at (accepted-holds accepted))
 
   -- a file is accepted with trace t exactly if it reads as t and the answer is t's counts

@@ -1,7 +1,7 @@
 // The beginning of a run, up to a chosen number, as a part of one of two lent lists.
 #![tactic(auto)]
 
-ghost use Rattle.std.specs.Prelude.{◌≡◌, true, ◌+◌, ◌≤◌, length};
+ghost use Rattle.std.specs.Prelude.{◌≡◌, true, ◌+◌, ◌<◌, ◌≤◌, length, IfSome, unwrap_or};
 ghost use Rattle.beginning.specs.Computed.{first_index, beginning_length, prefix_of, BeginningCall};
 ghost use Rattle.beginning.specs.Searched.{Searched};
 
@@ -21,11 +21,9 @@ fn eight_free(list: &[u16], at: usize, x: u32, y: u32) -> bool
     let low_x = (x % 65536) as u16;
     let low_y = (y % 65536) as u16;
     let mut free = true;
-    let mut i = 0;
-    while i < 8 {
+    for i in 0..8 {
         let z = list[at + i];
         free = basics::both(free, basics::both(z != low_x, z != low_y));
-        i += 1;
     }
     free
 }
@@ -35,6 +33,7 @@ fn skip(list: &[u16], from: usize, x: u32, y: u32) -> usize
     requires { Searched list.now x y from }
     ensures { Searched list.now x y result }
 {
+    // By eights, up to the first that are not free; a loop over `chunks_exact` would count this index too.
     let mut at = from;
     while 8 <= list.len() - at {
         if !eight_free(list, at, x, y) {
@@ -50,52 +49,49 @@ fn first_index(list: &[u16], from: usize, x: u32) -> usize
     requires { from ≤ first_index list.now x }
     ensures { result ≡ first_index list.now x }
 {
-    let mut i = skip(list, from, x, x);
-    while i < list.len() {
-        if basics::wide(list[i]) == x {
+    let rest = skip(list, from, x, x);
+    for i in rest..list.len() {
+        if u32::from(list[i]) == x {
             return i;
         }
-        i += 1;
     }
-    i
+    list.len()
 }
 
 // How long the part of the list is that ends with the first appearance of `chosen`, where `other` appears after it and
-// not before it; else 0.
-fn beginning_length(list: &[u16], chosen: u32, other: u32) -> usize
-    ensures { result ≡ beginning_length list.now chosen other }
+// not before it.
+fn beginning_length(list: &[u16], chosen: u32, other: u32) -> Option<usize>
+    ensures length { unwrap_or result 0 ≡ beginning_length list.now chosen other }
+    ensures some { IfSome result (λ n. 0 < n) }
 {
-    let mut i = skip(list, 0, chosen, other);
-    while i < list.len() {
-        let x = basics::wide(list[i]);
+    let rest = skip(list, 0, chosen, other);
+    for i in rest..list.len() {
+        let x = u32::from(list[i]);
         if x == other {
-            return 0;
+            return None;
         }
         if x == chosen {
             let o = first_index(list, i + 1, other);
             if o < list.len() {
-                return i + 1;
+                return Some(i + 1);
             }
-            return 0;
+            return None;
         }
-        i += 1;
     }
-    0
+    None
 }
 
 // Which list the beginning is a part of, and how long it is; where neither has one, nothing of the first list.
 pub fn which_prefix(first: &[u16], second: &[u16], chosen: u32, other: u32) -> Prefix
     ensures { result ≡ prefix_of first.now second.now chosen other }
 {
-    let of_first = beginning_length(first, chosen, other);
-    if 0 < of_first {
-        return Prefix::OfFirst { length: of_first };
+    match beginning_length(first, chosen, other) {
+        Some(length) => Prefix::OfFirst { length },
+        None => match beginning_length(second, chosen, other) {
+            Some(length) => Prefix::OfSecond { length },
+            None => Prefix::OfFirst { length: 0 },
+        },
     }
-    let of_second = beginning_length(second, chosen, other);
-    if 0 < of_second {
-        return Prefix::OfSecond { length: of_second };
-    }
-    Prefix::OfFirst { length: 0 }
 }
 
 // The part of the first list that ends with the first appearance of `chosen`, where `other` appears after it and not

@@ -3,20 +3,19 @@
 -- Differs: nowhere. That reading the struct of a call's answer gives that answer back is shown in proofs/ReadBack, for
 -- every answer whose refusal number is not 0.
 use Rattle.std.specs.Prelude.{ℕ, zero, suc}
-use Rattle.accept.specs.declared.AcceptAnswer.{AcceptAnswer}
-use Rattle.accept.specs.declared.AcceptAnswer.TheVariants as accept
-use Rattle.order_table.specs.declared.TableAnswer.{TableAnswer}
-use Rattle.order_table.specs.declared.TableAnswer.TheVariants as table
-use Rattle.pair_order.specs.declared.OrderAnswer.{OrderAnswer}
-use Rattle.pair_order.specs.declared.OrderAnswer.TheVariants as order
-use Rattle.two_runs.specs.declared.RunsAnswer.{RunsAnswer}
-use Rattle.two_runs.specs.declared.RunsAnswer.TheVariants as runs
+use Rattle.std.specs.Prelude.{Result}
+use Rattle.trace.specs.declared.Counts.{Counts}
+use Rattle.races.specs.declared.Races.{Races}
+use Rattle.trace.specs.declared.Refusal.{Refusal}
+use Rattle.trace.specs.Answer.{Refused}
+use Rattle.accept.specs.Acceptance.{Accepted}
+use Rattle.order_table.specs.Table.{Filled}
+use Rattle.pair_order.specs.Order.{Ordered}
+use Rattle.two_runs.specs.Runs.{Runs}
+use Rattle.races.specs.Races.{Listed}
+use Rattle.canonical.specs.CanonicalFile.{Written}
 use Rattle.beginning.specs.declared.Prefix.{Prefix}
 use Rattle.beginning.specs.declared.Prefix.TheVariants.{OfFirst, OfSecond}
-use Rattle.races.specs.declared.RacesAnswer.{RacesAnswer}
-use Rattle.races.specs.declared.RacesAnswer.TheVariants as races
-use Rattle.canonical.specs.declared.CanonicalAnswer.{CanonicalAnswer}
-use Rattle.canonical.specs.declared.CanonicalAnswer.TheVariants as canonical
 use Rattle.c_results.specs.declared.accept_result.AcceptResult.{AcceptResult}
 use Rattle.c_results.specs.declared.table_result.TableResult.{TableResult}
 use Rattle.c_results.specs.declared.order_result.OrderResult.{OrderResult}
@@ -31,24 +30,24 @@ if_zero zero x y = x
 if_zero (suc q) x y = y
 
 -- number 0 means that the call does not refuse; then the values are its answer
-abbrev pub accept_read : AcceptResult → AcceptAnswer
-accept_read r = if_zero r.number (accept.Accepted r.workers r.operations) (accept.Refused r.number r.place)
+abbrev pub accept_read : AcceptResult → Result Counts Refusal
+accept_read r = if_zero r.number (Accepted r.workers r.operations) (Refused r.number r.place)
 
-abbrev pub table_read : TableResult → TableAnswer
-table_read r = if_zero r.number (table.Filled r.workers r.operations) (table.Refused r.number r.place)
+abbrev pub table_read : TableResult → Result Counts Refusal
+table_read r = if_zero r.number (Filled r.workers r.operations) (Refused r.number r.place)
 
-abbrev pub order_read : OrderResult → OrderAnswer
-order_read r = if_zero r.number (order.Ordered r.sign) (order.Refused r.number r.place)
+abbrev pub order_read : OrderResult → Result ℤ Refusal
+order_read r = if_zero r.number (Ordered r.sign) (Refused r.number r.place)
 
-abbrev pub runs_read : RunsResult → RunsAnswer
-runs_read r = if_zero r.number (runs.Runs r.operations) (runs.Refused r.number r.place)
+abbrev pub runs_read : RunsResult → Result ℕ Refusal
+runs_read r = if_zero r.number (Runs r.operations) (Refused r.number r.place)
 
-abbrev pub races_read : RacesResult → RacesAnswer
+abbrev pub races_read : RacesResult → Result Races Refusal
 races_read r =
-    if_zero r.number (races.Listed r.workers r.operations r.races) (races.Refused r.number r.place)
+    if_zero r.number (Listed r.workers r.operations r.races) (Refused r.number r.place)
 
-abbrev pub canonical_read : CanonicalResult → CanonicalAnswer
-canonical_read r = if_zero r.number (canonical.Written r.size) (canonical.Refused r.number r.place)
+abbrev pub canonical_read : CanonicalResult → Result ℕ Refusal
+canonical_read r = if_zero r.number (Written r.size) (Refused r.number r.place)
 
 -- list 0 is the first
 abbrev pub beginning_read : BeginningResult → Prefix

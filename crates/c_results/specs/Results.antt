@@ -2,21 +2,12 @@
 -- Follows: document 01, "The questions": "A refusal is the number and a place". The structs are those of src/.
 -- Differs: nowhere. Number 0, which is no question's, stands for "not refused"; the values of a refusal, and the place
 -- where there is none, are 0.
-use Rattle.std.specs.Prelude.{pos}
-use Rattle.accept.specs.declared.AcceptAnswer.{AcceptAnswer}
-use Rattle.accept.specs.declared.AcceptAnswer.TheVariants as accept
-use Rattle.order_table.specs.declared.TableAnswer.{TableAnswer}
-use Rattle.order_table.specs.declared.TableAnswer.TheVariants as table
-use Rattle.pair_order.specs.declared.OrderAnswer.{OrderAnswer}
-use Rattle.pair_order.specs.declared.OrderAnswer.TheVariants as order
-use Rattle.two_runs.specs.declared.RunsAnswer.{RunsAnswer}
-use Rattle.two_runs.specs.declared.RunsAnswer.TheVariants as runs
+use Rattle.std.specs.Prelude.{pos, ℕ, ℤ, Result, Ok, Err}
+use Rattle.trace.specs.declared.Counts.{Counts}
+use Rattle.trace.specs.declared.Refusal.{Refusal}
+use Rattle.races.specs.declared.Races.{Races}
 use Rattle.beginning.specs.declared.Prefix.{Prefix}
 use Rattle.beginning.specs.declared.Prefix.TheVariants.{OfFirst, OfSecond}
-use Rattle.races.specs.declared.RacesAnswer.{RacesAnswer}
-use Rattle.races.specs.declared.RacesAnswer.TheVariants as races
-use Rattle.canonical.specs.declared.CanonicalAnswer.{CanonicalAnswer}
-use Rattle.canonical.specs.declared.CanonicalAnswer.TheVariants as canonical
 use Rattle.c_results.specs.declared.accept_result.AcceptResult.{AcceptResult}
 use Rattle.c_results.specs.declared.table_result.TableResult.{TableResult}
 use Rattle.c_results.specs.declared.order_result.OrderResult.{OrderResult}
@@ -25,29 +16,29 @@ use Rattle.c_results.specs.declared.races_result.RacesResult.{RacesResult}
 use Rattle.c_results.specs.declared.canonical_result.CanonicalResult.{CanonicalResult}
 use Rattle.c_results.specs.declared.beginning_result.BeginningResult.{BeginningResult}
 
-abbrev pub accept_result : AcceptAnswer → AcceptResult
-accept_result (accept.Refused q k) = record { number = q; place = k; workers = 0; operations = 0 }
-accept_result (accept.Accepted p n) = record { number = 0; place = 0; workers = p; operations = n }
+abbrev pub accept_result : Result Counts Refusal → AcceptResult
+accept_result (Err r) = record { number = r.number; place = r.place; workers = 0; operations = 0 }
+accept_result (Ok c) = record { number = 0; place = 0; workers = c.workers; operations = c.operations }
 
-abbrev pub table_result : TableAnswer → TableResult
-table_result (table.Refused q k) = record { number = q; place = k; workers = 0; operations = 0 }
-table_result (table.Filled p n) = record { number = 0; place = 0; workers = p; operations = n }
+abbrev pub table_result : Result Counts Refusal → TableResult
+table_result (Err r) = record { number = r.number; place = r.place; workers = 0; operations = 0 }
+table_result (Ok c) = record { number = 0; place = 0; workers = c.workers; operations = c.operations }
 
-abbrev pub order_result : OrderAnswer → OrderResult
-order_result (order.Refused q k) = record { number = q; place = k; sign = pos 0 }
-order_result (order.Ordered sign) = record { number = 0; place = 0; sign = sign }
+abbrev pub order_result : Result ℤ Refusal → OrderResult
+order_result (Err r) = record { number = r.number; place = r.place; sign = pos 0 }
+order_result (Ok sign) = record { number = 0; place = 0; sign = sign }
 
-abbrev pub runs_result : RunsAnswer → RunsResult
-runs_result (runs.Refused q k) = record { number = q; place = k; operations = 0 }
-runs_result (runs.Runs n) = record { number = 0; place = 0; operations = n }
+abbrev pub runs_result : Result ℕ Refusal → RunsResult
+runs_result (Err r) = record { number = r.number; place = r.place; operations = 0 }
+runs_result (Ok n) = record { number = 0; place = 0; operations = n }
 
-abbrev pub races_result : RacesAnswer → RacesResult
-races_result (races.Refused q k) = record { number = q; place = k; workers = 0; operations = 0; races = 0 }
-races_result (races.Listed p n m) = record { number = 0; place = 0; workers = p; operations = n; races = m }
+abbrev pub races_result : Result Races Refusal → RacesResult
+races_result (Err r) = record { number = r.number; place = r.place; workers = 0; operations = 0; races = 0 }
+races_result (Ok f) = record { number = 0; place = 0; workers = f.workers; operations = f.operations; races = f.races }
 
-abbrev pub canonical_result : CanonicalAnswer → CanonicalResult
-canonical_result (canonical.Refused q k) = record { number = q; place = k; size = 0 }
-canonical_result (canonical.Written size) = record { number = 0; place = 0; size = size }
+abbrev pub canonical_result : Result ℕ Refusal → CanonicalResult
+canonical_result (Err r) = record { number = r.number; place = r.place; size = 0 }
+canonical_result (Ok size) = record { number = 0; place = 0; size = size }
 
 -- list 0 is the first, list 1 the second
 abbrev pub beginning_result : Prefix → BeginningResult

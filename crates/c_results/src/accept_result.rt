@@ -2,7 +2,7 @@
 ghost use Rattle.std.specs.Prelude.{◌≡◌};
 ghost use Rattle.c_results.specs.Results.{accept_result};
 
-use accept::AcceptAnswer;
+use trace::{Counts, Refusal};
 
 #[repr(C)]
 #[derive(Clone, Copy)]
@@ -14,24 +14,23 @@ pub struct AcceptResult {
 }
 
 // The struct of an answer.
-pub fn result_of(answer: AcceptAnswer) -> AcceptResult
-    ensures { result ≡ accept_result answer }
-{
-    match answer {
-        AcceptAnswer::Accepted {
-            workers,
-            operations,
-        } => AcceptResult {
-            number: 0,
-            place: 0,
-            workers: workers,
-            operations: operations,
-        },
-        AcceptAnswer::Refused { number, place } => AcceptResult {
-            number: number,
-            place: place,
-            workers: 0,
-            operations: 0,
-        },
+impl From<Result<Counts, Refusal>> for AcceptResult {
+    ghost from_gives = { λ answer r. r ≡ accept_result answer };
+
+    fn from(answer: Result<Counts, Refusal>) -> AcceptResult {
+        match answer {
+            Ok(counts) => AcceptResult {
+                number: 0,
+                place: 0,
+                workers: counts.workers,
+                operations: counts.operations,
+            },
+            Err(refusal) => AcceptResult {
+                number: refusal.number,
+                place: refusal.place,
+                workers: 0,
+                operations: 0,
+            },
+        }
     }
 }

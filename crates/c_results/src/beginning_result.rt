@@ -13,17 +13,13 @@ pub struct BeginningResult {
 }
 
 // The struct of an answer.
-pub fn result_of(answer: Prefix) -> BeginningResult
-    ensures { result ≡ beginning_result answer }
-{
-    match answer {
-        Prefix::OfFirst { length } => BeginningResult {
-            list: 0,
-            length: length,
-        },
-        Prefix::OfSecond { length } => BeginningResult {
-            list: 1,
-            length: length,
-        },
+impl From<Prefix> for BeginningResult {
+    ghost from_gives = { λ answer r. r ≡ beginning_result answer };
+
+    fn from(answer: Prefix) -> BeginningResult {
+        match answer {
+            Prefix::OfFirst { length } => BeginningResult { list: 0, length },
+            Prefix::OfSecond { length } => BeginningResult { list: 1, length },
+        }
     }
 }

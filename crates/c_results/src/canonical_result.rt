@@ -2,7 +2,7 @@
 ghost use Rattle.std.specs.Prelude.{◌≡◌};
 ghost use Rattle.c_results.specs.Results.{canonical_result};
 
-use canonical::CanonicalAnswer;
+use trace::Refusal;
 
 #[repr(C)]
 #[derive(Clone, Copy)]
@@ -13,19 +13,21 @@ pub struct CanonicalResult {
 }
 
 // The struct of an answer.
-pub fn result_of(answer: CanonicalAnswer) -> CanonicalResult
-    ensures { result ≡ canonical_result answer }
-{
-    match answer {
-        CanonicalAnswer::Written { size } => CanonicalResult {
-            number: 0,
-            place: 0,
-            size: size,
-        },
-        CanonicalAnswer::Refused { number, place } => CanonicalResult {
-            number: number,
-            place: place,
-            size: 0,
-        },
+impl From<Result<u32, Refusal>> for CanonicalResult {
+    ghost from_gives = { λ answer r. r ≡ canonical_result answer };
+
+    fn from(answer: Result<u32, Refusal>) -> CanonicalResult {
+        match answer {
+            Ok(size) => CanonicalResult {
+                number: 0,
+                place: 0,
+                size,
+            },
+            Err(refusal) => CanonicalResult {
+                number: refusal.number,
+                place: refusal.place,
+                size: 0,
+            },
+        }
     }
 }

@@ -2,7 +2,7 @@
 ghost use Rattle.std.specs.Prelude.{◌≡◌};
 ghost use Rattle.c_results.specs.Results.{order_result};
 
-use pair_order::OrderAnswer;
+use trace::Refusal;
 
 #[repr(C)]
 #[derive(Clone, Copy)]
@@ -13,19 +13,21 @@ pub struct OrderResult {
 }
 
 // The struct of an answer.
-pub fn result_of(answer: OrderAnswer) -> OrderResult
-    ensures { result ≡ order_result answer }
-{
-    match answer {
-        OrderAnswer::Ordered { sign } => OrderResult {
-            number: 0,
-            place: 0,
-            sign: sign,
-        },
-        OrderAnswer::Refused { number, place } => OrderResult {
-            number: number,
-            place: place,
-            sign: 0,
-        },
+impl From<Result<i8, Refusal>> for OrderResult {
+    ghost from_gives = { λ answer r. r ≡ order_result answer };
+
+    fn from(answer: Result<i8, Refusal>) -> OrderResult {
+        match answer {
+            Ok(sign) => OrderResult {
+                number: 0,
+                place: 0,
+                sign,
+            },
+            Err(refusal) => OrderResult {
+                number: refusal.number,
+                place: refusal.place,
+                sign: 0,
+            },
+        }
     }
 }

@@ -2,7 +2,8 @@
 ghost use Rattle.std.specs.Prelude.{◌≡◌};
 ghost use Rattle.c_results.specs.Results.{races_result};
 
-use races::RacesAnswer;
+use races::Races;
+use trace::Refusal;
 
 #[repr(C)]
 #[derive(Clone, Copy)]
@@ -15,27 +16,25 @@ pub struct RacesResult {
 }
 
 // The struct of an answer.
-pub fn result_of(answer: RacesAnswer) -> RacesResult
-    ensures { result ≡ races_result answer }
-{
-    match answer {
-        RacesAnswer::Listed {
-            workers,
-            operations,
-            races,
-        } => RacesResult {
-            number: 0,
-            place: 0,
-            workers: workers,
-            operations: operations,
-            races: races,
-        },
-        RacesAnswer::Refused { number, place } => RacesResult {
-            number: number,
-            place: place,
-            workers: 0,
-            operations: 0,
-            races: 0,
-        },
+impl From<Result<Races, Refusal>> for RacesResult {
+    ghost from_gives = { λ answer r. r ≡ races_result answer };
+
+    fn from(answer: Result<Races, Refusal>) -> RacesResult {
+        match answer {
+            Ok(found) => RacesResult {
+                number: 0,
+                place: 0,
+                workers: found.workers,
+                operations: found.operations,
+                races: found.races,
+            },
+            Err(refusal) => RacesResult {
+                number: refusal.number,
+                place: refusal.place,
+                workers: 0,
+                operations: 0,
+                races: 0,
+            },
+        }
     }
 }

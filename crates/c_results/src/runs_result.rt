@@ -2,7 +2,7 @@
 ghost use Rattle.std.specs.Prelude.{◌≡◌};
 ghost use Rattle.c_results.specs.Results.{runs_result};
 
-use two_runs::RunsAnswer;
+use trace::Refusal;
 
 #[repr(C)]
 #[derive(Clone, Copy)]
@@ -13,19 +13,21 @@ pub struct RunsResult {
 }
 
 // The struct of an answer.
-pub fn result_of(answer: RunsAnswer) -> RunsResult
-    ensures { result ≡ runs_result answer }
-{
-    match answer {
-        RunsAnswer::Runs { operations } => RunsResult {
-            number: 0,
-            place: 0,
-            operations: operations,
-        },
-        RunsAnswer::Refused { number, place } => RunsResult {
-            number: number,
-            place: place,
-            operations: 0,
-        },
+impl From<Result<u32, Refusal>> for RunsResult {
+    ghost from_gives = { λ answer r. r ≡ runs_result answer };
+
+    fn from(answer: Result<u32, Refusal>) -> RunsResult {
+        match answer {
+            Ok(operations) => RunsResult {
+                number: 0,
+                place: 0,
+                operations,
+            },
+            Err(refusal) => RunsResult {
+                number: refusal.number,
+                place: refusal.place,
+                operations: 0,
+            },
+        }
     }
 }

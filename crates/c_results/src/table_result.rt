@@ -2,7 +2,7 @@
 ghost use Rattle.std.specs.Prelude.{◌≡◌};
 ghost use Rattle.c_results.specs.Results.{table_result};
 
-use order_table::TableAnswer;
+use trace::{Counts, Refusal};
 
 #[repr(C)]
 #[derive(Clone, Copy)]
@@ -14,24 +14,23 @@ pub struct TableResult {
 }
 
 // The struct of an answer.
-pub fn result_of(answer: TableAnswer) -> TableResult
-    ensures { result ≡ table_result answer }
-{
-    match answer {
-        TableAnswer::Filled {
-            workers,
-            operations,
-        } => TableResult {
-            number: 0,
-            place: 0,
-            workers: workers,
-            operations: operations,
-        },
-        TableAnswer::Refused { number, place } => TableResult {
-            number: number,
-            place: place,
-            workers: 0,
-            operations: 0,
-        },
+impl From<Result<Counts, Refusal>> for TableResult {
+    ghost from_gives = { λ answer r. r ≡ table_result answer };
+
+    fn from(answer: Result<Counts, Refusal>) -> TableResult {
+        match answer {
+            Ok(counts) => TableResult {
+                number: 0,
+                place: 0,
+                workers: counts.workers,
+                operations: counts.operations,
+            },
+            Err(refusal) => TableResult {
+                number: refusal.number,
+                place: refusal.place,
+                workers: 0,
+                operations: 0,
+            },
+        }
     }
 }

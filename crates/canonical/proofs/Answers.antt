@@ -8,20 +8,18 @@ use Prim.Native.Nat.{ℕ, ◌<◌, ◌≤◌}
 use lib.ListN.{length, get_or, drop}
 use mir.Syntax.{w8}
 use mir.Val.{Fits}
-use Rattle.basics.proofs.Booleans.{zero_one}
 use Rattle.trace.specs.Form.{base, start}
 use Rattle.trace.specs.Premises.{HoldsTrace}
 use Rattle.trace.specs.Refusals.{by_earlier, by_this}
 use Rattle.trace.specs.Reading.{Reading, refused, trace_of}
 use Rattle.trace.specs.Writing.{Bytes}
 use Rattle.trace.proofs.Answers.{file-size}
-use Rattle.trace.proofs.Outcomes.{TellsRefusals, outcome-refused}
-use Rattle.accept.specs.declared.AcceptAnswer.TheVariants as accept
+use Rattle.trace.proofs.Outcomes.{tells-refusals, outcome-refused}
+use Rattle.trace.specs.Answer.{Refused}
 use Rattle.accept.specs.Acceptance.{AcceptedTrace, accept_answer}
 use Rattle.accept.proofs.Answers.{refused-answer}
 use Rattle.lent.specs.Left.{left_by}
-use Rattle.canonical.specs.declared.CanonicalAnswer.TheVariants.{Written, Refused}
-use Rattle.canonical.specs.CanonicalFile.{canonical_bytes, canonical_reading, answer_of, canonical_answer}
+use Rattle.canonical.specs.CanonicalFile.{Written, canonical_bytes, canonical_reading, answer_of, canonical_answer}
 use Rattle.canonical.specs.CanonicalFile.{output_after, CanonicalCall}
 use Rattle.canonical.specs.Refusals.{AcceptedOutput, RefusedOutput}
 use Rattle.canonical.proofs.Questions.{output-comes-out}
@@ -60,7 +58,7 @@ module _ {bytes : List ℕ} (b : Bytes bytes) {p n : ℕ} (a : AcceptedTrace byt
   pub call-short : length lent < start base n → CanonicalCall bytes lent (Refused 17 0) lent
   call-short l = by-no b lent (by_this (trace_of bytes) a.0 (rw (file-size a.1) l) refl refl)
 
-pub call-refused : {bytes : List ℕ} → Bytes bytes → (lent : List ℕ) {q k : ℕ} → accept_answer bytes ≡ accept.Refused q k
+pub call-refused : {bytes : List ℕ} → Bytes bytes → (lent : List ℕ) {q k : ℕ} → accept_answer bytes ≡ Refused q k
     → CanonicalCall bytes lent (Refused q k) lent
 call-refused {bytes} b lent {q} {k} i = by-no b lent (by_earlier ((refused-answer bytes q k).0 i))
 
@@ -70,7 +68,4 @@ module _ (bytes lent : List ℕ) where
   pub output-refused : (q k : ℕ)
       → (canonical_answer bytes lent ≡ Refused q k) ↔ (canonical_reading bytes (length lent) ≡ refused q k)
   unfolding canonical_answer
-  output-refused q k = outcome-refused answer_of tells (canonical_reading bytes (length lent)) q k
-    where
-      tells : TellsRefusals answer_of
-      tells = record { apart = λ q k t z. zero_one cc; same = λ q k x y z. cc }
+  output-refused q k = outcome-refused answer_of (tells-refusals _) (canonical_reading bytes (length lent)) q k

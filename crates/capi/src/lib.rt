@@ -21,14 +21,14 @@ use c_results::table_result::TableResult;
 pub fn mersohki_accept(file: &[u8]) -> AcceptResult
     ensures { result ≡ accept_result (accept_answer file.now) }
 {
-    c_results::accept_result::result_of(accept::accept(file))
+    AcceptResult::from(accept::accept(file))
 }
 
 // Asks the file's questions and 11, of any bytes and any table; where none refuses, the order table.
 pub fn mersohki_order_table(file: &[u8], table: &mut [u16]) -> TableResult
     ensures { TableFunction file.now table.old result table.new }
 {
-    c_results::table_result::result_of(order_table::order_table(file, table))
+    TableResult::from(order_table::order_table(file, table))
 }
 
 // Asks the file's questions, 12 and 13, of any bytes and any two numbers; where none refuses, the order of the two
@@ -36,7 +36,7 @@ pub fn mersohki_order_table(file: &[u8], table: &mut [u16]) -> TableResult
 pub fn mersohki_pair_order(file: &[u8], a: u32, b: u32) -> OrderResult
     ensures { result ≡ order_result (order_answer file.now a b) }
 {
-    c_results::order_result::result_of(pair_order::pair_order(file, a, b))
+    OrderResult::from(pair_order::pair_order(file, a, b))
 }
 
 // Asks the file's questions and 12 to 15, of any bytes, any two numbers and any buffers; where none refuses, the two
@@ -51,7 +51,7 @@ pub fn mersohki_two_runs(
     ensures { RunsFunction file.now a b first.old second.old result
         first.new second.new }
 {
-    c_results::runs_result::result_of(two_runs::two_runs(file, a, b, first, second))
+    RunsResult::from(two_runs::two_runs(file, a, b, first, second))
 }
 
 // Asks the file's questions, 11 and 16, of any bytes, any table and any two lists; where none refuses, the races, and
@@ -65,14 +65,14 @@ pub fn mersohki_races(
     ensures { RacesFunction file.now table.old lower.old higher.old result
         table.new lower.new higher.new }
 {
-    c_results::races_result::result_of(races::races(file, table, lower, higher))
+    RacesResult::from(races::races(file, table, lower, higher))
 }
 
 // Asks the file's questions and 17, of any bytes and any output; where none refuses, the tidy file.
 pub fn mersohki_canonical(file: &[u8], output: &mut [u8]) -> CanonicalResult
     ensures { CanonicalFunction file.now output.old result output.new }
 {
-    c_results::canonical_result::result_of(canonical::canonical(file, output))
+    CanonicalResult::from(canonical::canonical(file, output))
 }
 
 // The part of the first list that ends with the first appearance of `chosen`, where `other` appears after it and not
@@ -81,5 +81,5 @@ pub fn mersohki_beginning(first: &[u16], second: &[u16], chosen: u32, other: u32
     ensures { result
         ≡ beginning_result (prefix_of first.now second.now chosen other) }
 {
-    c_results::beginning_result::result_of(beginning::which_prefix(first, second, chosen, other))
+    BeginningResult::from(beginning::which_prefix(first, second, chosen, other))
 }

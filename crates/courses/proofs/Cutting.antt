@@ -10,7 +10,7 @@ use Rattle.basics.proofs.Booleans.{equal?, less?}
 use Rattle.runs.specs.Workers.{earlier}
 use Rattle.trace.specs.Trace.{Trace, size, worker_of}
 use Rattle.index.specs.Steps.{operation_at, ahead, Plain, Between, reached, Step, Follows}
-use Rattle.index.proofs.Covering.{reached-in, reached-end}
+use Rattle.index.proofs.Covering.{reached-in, reached-end, ends-trace, ends-left-out, ends-cases}
 use Rattle.index.proofs.Operations.{at-rth, at_most, at-inside}
 use Rattle.courses.specs.Courses.{Entry}
 
@@ -42,7 +42,7 @@ module _ (t : Trace) (a b q : ℕ) (new : (j : ℕ) → operation_at t q j < siz
         up_to_end = x.up_to_end;
         first = between-other x.first;
         each = λ s h l. step_other (x.each s h l);
-        ending = elim x.ending [ inl e ↦ inl e | inr e ↦ inl (old e) ];
+        ending = elim (ends-cases x.ending) [ inl e ↦ ends-trace b e | inr e ↦ ends-trace b (old e) ];
       }
 
 -- an operation of another worker is none of q's
@@ -64,7 +64,7 @@ module _ {t : Trace} {list : List ℕ} {q first end last : ℕ} (x : Follows t (
     (here : operation_at t q prior ≡ a) (below : a < size t) (y : Entry list first end prior s) where
   -- a stands at the entry, or before it
   past : prior ≤ reached list end last s
-  past = go (less? s end) (less? last prior) x.ending
+  past = go (less? s end) (less? last prior) (ends-cases x.ending)
     where
       go : (s < end) ⊎ (end ≤ s) → (last < prior) ⊎ (prior ≤ last)
           → (operation_at t q last ≡ size t) ⊎ (operation_at t q last ≡ size t) → prior ≤ reached list end last s
@@ -113,7 +113,7 @@ module _ {t : Trace} {list : List ℕ} {q first end last : ℕ} (x : Follows t (
         up_to_end = y.from_on;
         first = cut-to (omega arith) y.from_on (omega arith) x.first;
         each = each;
-        ending = inr here;
+        ending = ends-left-out (size t) here;
       }
     where
       each : (j : ℕ) → first ≤ j → j < s → Step t a list q s prior j

@@ -16,7 +16,6 @@ pub begun-next : {starts nexts lasts : List ℕ} {q : ℕ} → Begun starts next
     → Begun starts (set nexts q (get_or starts q 0)) (set lasts q (get_or starts (q + 1) 0 - get_or starts q 0)) (q + 1)
 begun-next {starts} {nexts} {lasts} {q} x h =
     record {
-      upto = omega arith;
       places = length-set nexts q _ ∙ x.places;
       counts = length-set lasts q _ ∙ x.counts;
       each = λ r l. each r l (equal? r q);

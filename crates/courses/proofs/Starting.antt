@@ -18,65 +18,51 @@ use Rattle.index.proofs.Operations.{own_at}
 use Rattle.states.specs.States.{next_of}
 use Rattle.states.proofs.Runs.{ends-start, ends-whole}
 use Rattle.walk.specs.Going.{Stopped, at_end, at_left_out, at_event, Awake, Going, Sized}
-use Rattle.courses.specs.Courses.{Opens, Begun, Courses, BegunWithout, LeftOut}
+use Rattle.courses.specs.Courses.{Opens, Begun, Unstarted, Courses, BegunWithout, LeftOut}
 use Rattle.courses.proofs.Cutting.{follows-other, apart_other, ends-other, cut-own, cut-whole}
 
 -- ---- what the code needs
 
 pub listed-opens : {t : Trace} {starts list ends : List ℕ} → Listed t starts list ends
     → ((q : ℕ) → q < 16 → get_or starts q 0 ≤ get_or starts (q + 1) 0) → Opens starts ends
-listed-opens x up = record { room = x.room; each = λ q l. ((x.follows q l).up_to_end, x.few q l, up q l) }
+listed-opens x up = record { each = λ q l. ((x.follows q l).up_to_end, x.few q l, up q l) }
 
-pub start-sized : {starts ends nexts lasts counts events waiting : List ℕ}
+pub start-sized : {starts ends nexts lasts : List ℕ}
     → ((q : ℕ) → q < 16 → (get_or starts q 0 ≤ get_or ends q 0) × (get_or ends q 0 ≤ 1024)) → Begun starts nexts lasts 16
-    → length counts ≡ 16 → length events ≡ 4 → length waiting ≡ 256 → Sized ends nexts counts events waiting
-start-sized o x h k m =
-    record {
-      places = x.places;
-      counters = h;
-      words = k;
-      room = m;
-      each = λ q l. let e = o q l in (omega (arith, (x.each q l).0, e.0), e.1);
-    }
+    → Sized ends nexts
+start-sized o x =
+    record { each = λ q l. let e = o q l in (omega (arith, (x.each q l).0, e.0), e.1) }
 
 module _ {starts list ends nexts stops lasts : List ℕ} {q prior : ℕ}
     (y : BegunWithout starts list ends q prior nexts stops lasts) where
   -- worker q's end and count, where its list is cut
   stop-own : get_or stops q 0 ≡ y.at
-  stop-own = rw y.ends_cut (get_or-set_same ends q y.at 0 (omega (arith, y.low, y.opens.room)))
+  stop-own = rw y.ends_cut (get_or-set_same ends q y.at 0 (omega (arith, y.low, y.room)))
 
   count-own : get_or lasts q 0 ≡ prior
   count-own = rw y.counts_cut (get_or-set_same y.whole q prior 0 (omega (arith, y.low, y.begun.counts)))
 
   stop-room : q < length stops
-  stop-room = rw y.ends_cut (omega (arith, y.low, y.opens.room, length-set ends q y.at))
+  stop-room = rw y.ends_cut (omega (arith, y.low, y.room, length-set ends q y.at))
 
   count_room : q < length lasts
   count_room = rw y.counts_cut (omega (arith, y.low, y.begun.counts, length-set y.whole q prior))
 
   -- the lists that are left lie inside too
-  pub without-sized : {counts events waiting : List ℕ} → length counts ≡ 16 → length events ≡ 4
-      → length waiting ≡ 256 → Sized stops nexts counts events waiting
+  pub without-sized : Sized stops nexts
   without-sized = start-sized (λ r l. rw y.ends_cut (each r l (equal? r q))) y.begun
     where
       each : (r : ℕ) → r < 16 → (r ≡ q) ⊎ (r ≢ q)
           → (get_or starts r 0 ≤ get_or (set ends q y.at) r 0) × (get_or (set ends q y.at) r 0 ≤ 1024)
       each r l (inl e) =
-          rw (e, get_or-set_same ends q y.at 0 (omega (arith, y.low, y.opens.room)))
+          rw (e, get_or-set_same ends q y.at 0 (omega (arith, y.low, y.room)))
           (y.entry.from_on, omega (arith, y.entry.up_to_end, (y.opens.each q y.low).1))
       each r l (inr n) = let e = y.opens.each r l in rw (get_or-set_other ends q r y.at 0 n) (e.0, e.1)
 
   -- and those that are whole again
-  pub let-in-sized : {nexts' counts events waiting stops' : List ℕ} → Sized stops nexts' counts events waiting
-      → stops' ≡ set stops q (get_or ends q 0) → Sized stops' nexts' counts events waiting
-  let-in-sized {nexts'} s i =
-      record {
-        places = s.places;
-        counters = s.counters;
-        words = s.words;
-        room = s.room;
-        each = λ r l. rw i (each r l (equal? r q));
-      }
+  pub let-in-sized : {nexts' stops' : List ℕ} → Sized stops nexts' → stops' ≡ set stops q (get_or ends q 0)
+      → Sized stops' nexts'
+  let-in-sized {nexts'} s i = record { each = λ r l. rw i (each r l (equal? r q)) }
     where
       each : (r : ℕ) → r < 16 → (r ≡ q) ⊎ (r ≢ q)
           → (get_or nexts' r 0 ≤ get_or (set stops q (get_or ends q 0)) r 0)
@@ -88,17 +74,17 @@ module _ {starts list ends nexts stops lasts : List ℕ} {q prior : ℕ}
 
 -- ---- nothing done
 
-pub going_start : {t : Trace} → Fits t → {a : ℕ} {starts list ends lasts nexts : List ℕ} {ready : ℕ}
+pub going_start : {t : Trace} → Fits t → {a : ℕ} {starts list ends lasts nexts counts events waiting : List ℕ} {ready : ℕ}
     → Courses t a starts list ends lasts → ((q : ℕ) → q < 16 → get_or nexts q 0 ≡ get_or starts q 0)
-    → Below t.workers ready
-    → Going t a 16 [] list ends lasts nexts (replicate 16 0) (replicate 4 0) (replicate 256 0) ready
-going_start {t} f {a} {ready = ready} x firsts all =
-    record {
+    → Unstarted counts events waiting → Below t.workers ready
+    → Going t a 16 [] list ends lasts nexts counts events waiting ready
+going_start {t} f {a} {ready = ready} x firsts u all =
+    rw (u.undone, u.unposted, u.unawaited) (record {
       run = ends-start t a;
       follows = λ q l o. rw (zeros 16 q, firsts q l) (x.each q l);
       awake = awake;
       stands = λ q l. inl (all.all q l);
-    }
+    })
   where
     awake : (q : ℕ) → Awake (replicate 256 0) ready q → (q < t.workers) × (q ≢ 16)
     awake q (inl i) = (all.only q i, λ z. omega (arith, z, all.only q i, f.most))
@@ -132,10 +118,10 @@ module _ {t : Trace} {p : ℕ} {starts list ends : List ℕ} {q prior a : ℕ} (
           rw (y.ends_cut, y.counts_cut, get_or-set_other ends q r y.at 0 n, get_or-set_other y.whole q r prior 0 n)
           (follows-other t (size t) a r (apart_other t r a (others r n)) (λ e. e) (whole.each r l))
 
-  pub going-without : {ready : ℕ} → Below p ready
-      → Going t a 16 [] list stops lasts nexts (replicate 16 0) (replicate 4 0) (replicate 256 0) ready
-  going-without all =
-      going_start x.fits courses-cut (λ r l. (y.begun.each r l).0) (rw (← x.workers) at all)
+  pub going-without : {counts events waiting : List ℕ} {ready : ℕ} → Unstarted counts events waiting → Below p ready
+      → Going t a 16 [] list stops lasts nexts counts events waiting ready
+  going-without u all =
+      going_start x.fits courses-cut (λ r l. (y.begun.each r l).0) u (rw (← x.workers) at all)
 
   -- ---- a is let in: its worker's list is whole again
 

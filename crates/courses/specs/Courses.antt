@@ -1,7 +1,7 @@
 -- Where a walk starts: each worker at the start of its list, all of it before it, or up to an operation that is left
 -- out.
 -- Follows: nothing in the documents. A means.
-use Rattle.std.specs.Prelude.{List, ◌≡◌, ℕ, ◌+◌, ◌-◌, ◌<◌, ◌≤◌, length, get_or, set}
+use Rattle.std.specs.Prelude.{List, ◌≡◌, ℕ, ◌+◌, ◌-◌, ◌<◌, ◌≤◌, length, get_or, set, replicate}
 use Rattle.runs.specs.Workers.{earlier}
 use Rattle.trace.specs.Premises.{Fits}
 use Rattle.trace.specs.Trace.{Trace, size, worker_of}
@@ -10,17 +10,21 @@ use Rattle.states.specs.States.{Exhausted}
 
 -- each of the sixteen lists lies inside the array, and the parts are in order
 pub record Opens (starts ends : List ℕ) : Type 0 where
-  pub room : length ends ≡ 16
   pub each : (q : ℕ) → q < 16
       → (get_or starts q 0 ≤ get_or ends q 0) × (get_or ends q 0 ≤ 1024) × (get_or starts q 0 ≤ get_or starts (q + 1) 0)
 
 -- the workers below q stand at their lists' starts, and have so many operations
 pub record Begun (starts nexts lasts : List ℕ) (q : ℕ) : Type 0 where
-  pub upto : q ≤ 16
   pub places : length nexts ≡ 16
   pub counts : length lasts ≡ 16
   pub each : (r : ℕ) → r < q
       → (get_or nexts r 0 ≡ get_or starts r 0) × (get_or lasts r 0 ≡ get_or starts (r + 1) 0 - get_or starts r 0)
+
+-- nothing is done, no event is posted, and nobody waits
+pub record Unstarted (counts events waiting : List ℕ) : Type 0 where
+  pub undone : counts ≡ replicate 16 0
+  pub unposted : events ≡ replicate 4 0
+  pub unawaited : waiting ≡ replicate 256 0
 
 -- the first entry from `from` on, up to `end`, that does not stand before the operation with `prior` earlier ones
 pub record Entry (list : List ℕ) (from end prior s : ℕ) : Type 0 where
@@ -39,6 +43,7 @@ pub record Courses (t : Trace) (a : ℕ) (starts list ends lasts : List ℕ) : T
 pub record BegunWithout (starts list ends : List ℕ) (q prior : ℕ) (nexts stops lasts : List ℕ) : Type 0 where
   pub low : q < 16
   pub opens : Opens starts ends
+  pub room : length ends ≡ 16
   pub whole : List ℕ
   pub begun : Begun starts nexts whole 16
   pub at : ℕ

@@ -1,30 +1,40 @@
 // Where a walk starts, with nothing left out or without an operation, and what its end tells. For the crates above,
-// which have read the file and filled its index before.
+// which have read the file and made its index before.
 #![tactic(auto)]
 
-ghost use Rattle.std.specs.Prelude.{List, ◌≡◌, ℕ, ◌+◌, ◌-◌, ◌<◌, ◌≤◌, length, get_or, set};
+ghost use Rattle.std.specs.Prelude.{List, ◌≡◌, ℕ, ◌+◌, ◌-◌, ◌<◌, ◌≤◌, get_or, set};
 ghost use Rattle.trace.specs.Premises.{Fits};
 ghost use Rattle.trace.specs.Trace.{Trace, size};
 ghost use Rattle.index.specs.Steps.{Listed};
 ghost use Rattle.states.specs.States.{Exhausted};
-ghost use Rattle.courses.specs.Courses.{Opens, Begun, Entry, BegunWithout};
+ghost use Rattle.courses.specs.Courses.{Opens, Begun, Unstarted, Entry, BegunWithout};
 ghost use Rattle.courses.specs.Courses.{LeftOut, Ended};
 
-use walk::Walk;
+use index::Index;
+use walk::{Limits, Walk};
 
-// Each worker at the start of its list, and how many operations it has.
-pub fn begin(starts: &[u16; 17], nexts: &mut [u16; 16], lasts: &mut [u16; 16])
-    requires { ((q : ℕ) → q < 16 → get_or starts.now q 0 ≤ get_or starts.now (q + 1) 0)
-        × (length nexts.old ≡ 16)
-        × (length lasts.old ≡ 16) }
-    ensures { Begun starts.now nexts.new lasts.new 16 }
+// Each worker at the start of its list, which it goes to the end, with nothing done.
+pub fn begin(index: &Index) -> (Limits, Walk)
+    requires { (q : ℕ) → q < 16 → get_or index.now.starts q 0 ≤ get_or index.now.starts (q + 1) 0 }
+    ensures { Begun index.now.starts result.1.nexts result.0.lasts 16
+        × (result.0.ends ≡ index.now.ends)
+        × Unstarted result.1.done result.1.events result.1.waiting }
 {
-    let mut q: usize = 0;
-    while q < 16 {
-        nexts[q] = starts[q];
-        lasts[q] = starts[q + 1] - starts[q];
-        q += 1;
+    let mut limits = Limits {
+        ends: index.ends,
+        lasts: [0; 16],
+    };
+    let mut walk = Walk {
+        nexts: [0; 16],
+        done: [0; 16],
+        events: [0; 4],
+        waiting: [0; 256],
+    };
+    for q in 0..16 {
+        walk.nexts[q] = index.starts[q];
+        limits.lasts[q] = index.starts[q + 1] - index.starts[q];
     }
+    (limits, walk)
 }
 
 // The first entry of a list, from `from` on, that does not stand before the operation with `prior` earlier ones.
@@ -32,124 +42,62 @@ fn entry_from(list: &[u32; 1024], from: usize, end: usize, prior: u32) -> usize
     requires { (from ≤ «end») × («end» ≤ 1024) }
     ensures { Entry list.now from «end» prior result }
 {
-    let mut s = from;
-    while s < end {
+    for s in from..end {
         if prior <= index::count_before(list[s]) {
             return s;
         }
-        s += 1;
     }
-    s
+    end
 }
 
-// Each worker at the start of its list; of the lists' ends, in `stops`, worker q's is moved to before its operation
-// with `prior` earlier ones.
-pub fn begin_without(
-    starts: &[u16; 17],
-    list: &[u32; 1024],
-    q: usize,
-    prior: u16,
-    nexts: &mut [u16; 16],
-    stops: &mut [u16; 16],
-    lasts: &mut [u16; 16],
-)
-    requires { (q < 16)
-        × Opens starts.now stops.old
-        × (length nexts.old ≡ 16)
-        × (length lasts.old ≡ 16) }
-    ensures { BegunWithout starts.now list.now stops.old q prior
-        nexts.new stops.new lasts.new }
+// The same, but that worker q's list ends before its operation with `prior` earlier ones.
+pub fn begin_without(index: &Index, q: usize, prior: u16) -> (Limits, Walk)
+    requires { (q < 16) × Opens index.now.starts index.now.ends }
+    ensures { BegunWithout index.now.starts index.now.list index.now.ends q prior
+        result.1.nexts result.0.ends result.0.lasts
+        × Unstarted result.1.done result.1.events result.1.waiting }
 {
-    begin(starts, nexts, lasts);
-    let from = basics::index(starts[q]);
-    let end = basics::index(stops[q]);
-    stops[q] = entry_from(list, from, end, basics::wide(prior)) as u16;
-    lasts[q] = prior;
+    let (mut limits, walk) = begin(index);
+    let from = usize::from(index.starts[q]);
+    let end = usize::from(index.ends[q]);
+    limits.ends[q] = entry_from(&index.list, from, end, u32::from(prior)) as u16;
+    limits.lasts[q] = prior;
+    (limits, walk)
 }
 
 // Lets the operation in that was left out: worker q's list is whole again.
-pub fn let_in(
-    starts: &[u16; 17],
-    ends: &[u16; 16],
-    q: usize,
-    stops: &mut [u16; 16],
-    lasts: &mut [u16; 16],
-)
-    requires { (q < 16) × (get_or starts.now q 0 ≤ get_or starts.now (q + 1) 0) }
-    ensures { (stops.new ≡ set stops.old q (get_or ends.now q 0))
-        × (lasts.new ≡ set lasts.old q
-        (get_or starts.now (q + 1) 0 - get_or starts.now q 0)) }
+pub fn let_in(index: &Index, q: usize, limits: &mut Limits)
+    requires { (q < 16) × (get_or index.now.starts q 0 ≤ get_or index.now.starts (q + 1) 0) }
+    ensures { (limits.new.ends ≡ set limits.old.ends q (get_or index.now.ends q 0))
+        × (limits.new.lasts ≡ set limits.old.lasts q
+        (get_or index.now.starts (q + 1) 0 - get_or index.now.starts q 0)) }
 {
-    stops[q] = ends[q];
-    lasts[q] = starts[q + 1] - starts[q];
+    limits.ends[q] = index.ends[q];
+    limits.lasts[q] = index.starts[q + 1] - index.starts[q];
 }
 
-// The state at the end of the walk of p workers, with nothing left out.
-pub fn walk_whole(p: usize, starts: &[u16; 17], list: &[u32; 1024], ends: &[u16; 16]) -> Walk
-    requires { (p ≤ 16) × Opens starts.now ends.now }
+// The end of the walk of p workers, with nothing left out.
+pub fn walk_whole(index: &Index, p: usize) -> Walk
+    requires { (p ≤ 16) × Opens index.now.starts index.now.ends }
     ensures { (t : Trace) → Fits t → t.workers ≡ p
-        → Listed t starts.now list.now ends.now
+        → Listed t index.now.starts index.now.list index.now.ends
         → (s : List ℕ) × Exhausted t (size t) s result.done result.events }
 {
-    let mut nexts = [0u16; 16];
-    let mut lasts = [0u16; 16];
-    let mut done = [0u16; 16];
-    let mut events = [0u64; 4];
-    let mut waiting = [0u16; 256];
-    begin(starts, &mut nexts, &mut lasts);
-    let all = masks::below(p as u32);
-    walk::walk_on(
-        list,
-        ends,
-        &lasts,
-        all,
-        &mut nexts,
-        &mut done,
-        &mut events,
-        &mut waiting,
-    );
-    Walk {
-        done: done,
-        events: events,
-    }
+    let (limits, mut walk) = begin(index);
+    walk.walk_on(&index.list, &limits, masks::below(p as u32));
+    walk
 }
 
-// The state at the end of the walk of p workers without worker q's operation with `prior` earlier ones.
-pub fn walk_without(
-    p: usize,
-    q: usize,
-    prior: u16,
-    starts: &[u16; 17],
-    list: &[u32; 1024],
-    ends: &[u16; 16],
-) -> Walk
-    requires { (p ≤ 16) × (q < 16) × Opens starts.now ends.now }
+// The end of the walk of p workers without worker q's operation with `prior` earlier ones.
+pub fn walk_without(index: &Index, p: usize, q: usize, prior: u16) -> Walk
+    requires { (p ≤ 16) × (q < 16) × Opens index.now.starts index.now.ends }
     ensures { (t : Trace) (a : ℕ)
-        → LeftOut t p starts.now list.now ends.now q prior a
+        → LeftOut t p index.now.starts index.now.list index.now.ends q prior a
         → (s : List ℕ) × Exhausted t a s result.done result.events }
 {
-    let mut nexts = [0u16; 16];
-    let mut lasts = [0u16; 16];
-    let mut stops = *ends;
-    let mut done = [0u16; 16];
-    let mut events = [0u64; 4];
-    let mut waiting = [0u16; 256];
-    begin_without(starts, list, q, prior, &mut nexts, &mut stops, &mut lasts);
-    let all = masks::below(p as u32);
-    walk::walk_on(
-        list,
-        &stops,
-        &lasts,
-        all,
-        &mut nexts,
-        &mut done,
-        &mut events,
-        &mut waiting,
-    );
-    Walk {
-        done: done,
-        events: events,
-    }
+    let (limits, mut walk) = begin_without(index, q, prior);
+    walk.walk_on(&index.list, &limits, masks::below(p as u32));
+    walk
 }
 
 // The done counts at the end of the walk without an operation, and, with that let in, at the end of the whole walk.
@@ -160,52 +108,19 @@ pub struct Twice {
 }
 
 // One walk of p workers, first without worker q's operation with `prior` earlier ones, then with it.
-pub fn walk_twice(
-    p: usize,
-    q: usize,
-    prior: u16,
-    starts: &[u16; 17],
-    list: &[u32; 1024],
-    ends: &[u16; 16],
-) -> Twice
-    requires { (p ≤ 16) × (q < 16) × Opens starts.now ends.now }
+pub fn walk_twice(index: &Index, p: usize, q: usize, prior: u16) -> Twice
+    requires { (p ≤ 16) × (q < 16) × Opens index.now.starts index.now.ends }
     ensures { (t : Trace) (a : ℕ)
-        → LeftOut t p starts.now list.now ends.now q prior a
+        → LeftOut t p index.now.starts index.now.list index.now.ends q prior a
         → Ended t a result.held × Ended t (size t) result.whole }
 {
-    let mut nexts = [0u16; 16];
-    let mut lasts = [0u16; 16];
-    let mut stops = *ends;
-    let mut done = [0u16; 16];
-    let mut events = [0u64; 4];
-    let mut waiting = [0u16; 256];
-    begin_without(starts, list, q, prior, &mut nexts, &mut stops, &mut lasts);
-    let all = masks::below(p as u32);
-    walk::walk_on(
-        list,
-        &stops,
-        &lasts,
-        all,
-        &mut nexts,
-        &mut done,
-        &mut events,
-        &mut waiting,
-    );
-    let held = done;
-    let_in(starts, ends, q, &mut stops, &mut lasts);
-    let own = masks::with(0, q as u32);
-    walk::walk_on(
-        list,
-        &stops,
-        &lasts,
-        own,
-        &mut nexts,
-        &mut done,
-        &mut events,
-        &mut waiting,
-    );
+    let (mut limits, mut walk) = begin_without(index, q, prior);
+    walk.walk_on(&index.list, &limits, masks::below(p as u32));
+    let held = walk.done;
+    let_in(index, q, &mut limits);
+    walk.walk_on(&index.list, &limits, masks::with(0, q as u32));
     Twice {
-        held: held,
-        whole: done,
+        held,
+        whole: walk.done,
     }
 }

@@ -12,7 +12,7 @@ use Rattle.trace.proofs.Answers.{file-means}
 use Rattle.trace.proofs.WrittenBytes.{trace-file}
 use Rattle.model.specs.Runs.{CompleteRunOf}
 use Rattle.accept.specs.Acceptance.{AcceptedTrace, accept_answer}
-use Rattle.accept.specs.declared.AcceptAnswer.TheVariants.{Accepted}
+use Rattle.accept.specs.Acceptance.{Accepted}
 use Rattle.accept.proofs.Answers.{accepted-answer}
 use Rattle.accept.proofs.Questions.{accepted-reads, accepted-complete, accepted-same}
 

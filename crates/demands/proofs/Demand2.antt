@@ -24,12 +24,18 @@ use Rattle.model.proofs.Largest.{execution-largest, execution-definition, execut
 use Rattle.model.proofs.Largest.{execution-exists, execution-nothing}
 use Rattle.model.proofs.SharedOrder.{unordered-executions}
 use Rattle.accept.specs.Acceptance.{AcceptedTrace, accept_answer}
-use Rattle.accept.specs.declared.AcceptAnswer.TheVariants.{Accepted, Refused}
+use Rattle.std.specs.Prelude.{Result}
+use Rattle.trace.specs.declared.Counts.{Counts}
+use Rattle.races.specs.declared.Races.{Races}
+use Rattle.trace.specs.declared.Refusal.{Refusal}
+use Rattle.trace.specs.Answer.{Refused}
+use Rattle.accept.specs.Acceptance.{Accepted}
+use Rattle.races.specs.Races.{Listed}
+use Rattle.canonical.specs.CanonicalFile.{Written}
 use Rattle.accept.proofs.Accepting.{answer-unread}
 use Rattle.accept.proofs.Answers.{answer-means, accepted-answer}
 use Rattle.accept.proofs.Questions.{refused-place, accepted-complete, refused-incomplete}
 use Rattle.accept.proofs.Questions.{accepted-same, accepted-workers}
-use Rattle.order_table.specs.declared.TableAnswer.{TableAnswer}
 use Rattle.order_table.specs.Refusals.{AcceptedTable}
 use Rattle.order_table.specs.Table.{TableCall}
 use Rattle.order_table.proofs.Entries.{after-execution, after-must-precede, after-past}
@@ -37,16 +43,12 @@ use Rattle.race_model.specs.declared.Race.{Race}
 use Rattle.race_model.specs.Race.{Conflict, RaceIn, RaceListOf}
 use Rattle.race_model.specs.RaceList.{race_list, race_count}
 use Rattle.race_model.proofs.OnlyList.{list_of, list-only}
-use Rattle.races.specs.declared.RacesAnswer.{RacesAnswer}
-use Rattle.races.specs.declared.RacesAnswer.TheVariants as races
 use Rattle.races.specs.Races.{race_records, shorter, CountCall, RacesCall}
 use Rattle.races.specs.Refusals.{AcceptedRaces}
 use Rattle.races.proofs.Answers.{races-listed, races-short}
 use Rattle.races.proofs.Listed.{lists-hold, lists-past}
 use Rattle.race_list.specs.Listing.{ListCall}
 use Rattle.race_list.proofs.Lists.{list_holds, list-past}
-use Rattle.canonical.specs.declared.CanonicalAnswer.{CanonicalAnswer}
-use Rattle.canonical.specs.declared.CanonicalAnswer.TheVariants.{Written}
 use Rattle.canonical.specs.CanonicalFile.{canonical_trace, SameWorkers, canonical_bytes, CanonicalCall}
 use Rattle.canonical.specs.Refusals.{AcceptedOutput}
 use Rattle.canonical.proofs.ByWorker.{canonical-size, canonical-same-workers, same-canonical}
@@ -59,7 +61,7 @@ use Rattle.demands.proofs.Demand1.{canonical-answers}
 -- "The table [is that] of the maximal valid executions of Wisconsin report 1084."
 
 -- For an accepted file, a lent table that holds at least n × p numbers, and what the call (`TableCall`) leaves in it:
-module _ {bytes : List ℕ} {t : Trace} (h : AcceptedTrace bytes t) {lent now : List ℕ} {answer : TableAnswer}
+module _ {bytes : List ℕ} {t : Trace} (h : AcceptedTrace bytes t) {lent now : List ℕ} {answer : Result Counts Refusal}
     (l : size t * t.workers ≤ length lent) (c : TableCall bytes lent answer now) where
   room : AcceptedTable bytes (length lent) t
   room = record { accepted = h; table_holds = l }
@@ -130,7 +132,7 @@ module _ {bytes : List ℕ} {t : Trace} (h : AcceptedTrace bytes t) where
 -- For an accepted file, a lent table that holds at least n × p numbers, and what a call with a list of `room` records
 -- answers, in either form of the list (`CountCall`; demand 1's `race-list-as-count`, `races-as-count`):
 module _ {bytes : List ℕ} {t : Trace} (h : AcceptedTrace bytes t) {lent table-now : List ℕ} {room : ℕ}
-    {answer : RacesAnswer} (l : size t * t.workers ≤ length lent)
+    {answer : Result Races Refusal} (l : size t * t.workers ≤ length lent)
     (c : CountCall bytes lent room answer table-now) where
   filled : AcceptedTable bytes (length lent) t
   filled = record { accepted = h; table_holds = l }
@@ -140,7 +142,7 @@ module _ {bytes : List ℕ} {t : Trace} (h : AcceptedTrace bytes t) {lent table-
 
   -- The races are listed exactly if there are no more of them than records, and the count is how many there are:
   pub races-count : {all : List Race} → RaceListOf t all → (m : ℕ)
-      → (answer ≡ races.Listed t.workers (size t) m) ↔ ((length all ≤ room) × (m ≡ length all))
+      → (answer ≡ Listed t.workers (size t) m) ↔ ((length all ≤ room) × (m ≡ length all))
   races-count {all} r m = rw c.answers (Iff.trans (races-listed bytes (length lent) room h m) (
     λ p. (omega (arith, p.0.list_holds, same_count r), omega (arith, p.1, same_count r)),
     λ p. (
@@ -151,14 +153,14 @@ module _ {bytes : List ℕ} {t : Trace} (h : AcceptedTrace bytes t) {lent table-
 
   -- The buyer: "'No space for the races' must agree with the real number of races."
   pub races-no-space : {all : List Race} → RaceListOf t all → (k : ℕ)
-      → (answer ≡ races.Refused 16 k) ↔ ((room < length all) × (k ≡ length all))
+      → (answer ≡ Refused 16 k) ↔ ((room < length all) × (k ≡ length all))
   races-no-space r k = rw (c.answers, same_count r) (races-short bytes (length lent) room filled k)
 
 -- Where they are listed, the first records of the list are the list of races, and what lies behind them is as before;
 -- so for the list of records:
 module _ {bytes : List ℕ} {t : Trace} (h : AcceptedTrace bytes t) {lent table-now : List ℕ}
-    {list list-now : List Race} {answer : RacesAnswer} (c : ListCall bytes lent list answer table-now list-now) {m : ℕ}
-    (a : answer ≡ races.Listed t.workers (size t) m) where
+    {list list-now : List Race} {answer : Result Races Refusal} (c : ListCall bytes lent list answer table-now list-now) {m : ℕ}
+    (a : answer ≡ Listed t.workers (size t) m) where
   listed : AcceptedRaces bytes (length lent) (length list) t × (m ≡ race_count t)
   listed = (races-listed bytes (length lent) (length list) h m).0 (sym c.answers ∙ a)
 
@@ -171,9 +173,9 @@ module _ {bytes : List ℕ} {t : Trace} (h : AcceptedTrace bytes t) {lent table-
 
 -- and for the two lists of numbers, each place of which is a record:
 module _ {bytes : List ℕ} {t : Trace} (h : AcceptedTrace bytes t)
-    {lent lower higher table-now lower-now higher-now : List ℕ} {answer : RacesAnswer}
+    {lent lower higher table-now lower-now higher-now : List ℕ} {answer : Result Races Refusal}
     (c : RacesCall bytes lent lower higher answer table-now lower-now higher-now) {m : ℕ}
-    (a : answer ≡ races.Listed t.workers (size t) m) where
+    (a : answer ≡ Listed t.workers (size t) m) where
   both-listed : AcceptedRaces bytes (length lent) (shorter (length lower) (length higher)) t × (m ≡ race_count t)
   both-listed = (races-listed bytes (length lent) _ h m).0 (sym c.answers ∙ a)
 
@@ -245,7 +247,7 @@ refused-ten-only bytes k a = go (file_reading bytes) refl
 -- operations in each worker's order tidy to the same bytes."
 
 -- For an accepted file, an output that holds at least as many bytes, and what the call (`CanonicalCall`) leaves in it:
-module _ {bytes : List ℕ} {t : Trace} (h : AcceptedTrace bytes t) {lent now : List ℕ} {answer : CanonicalAnswer}
+module _ {bytes : List ℕ} {t : Trace} (h : AcceptedTrace bytes t) {lent now : List ℕ} {answer : Result ℕ Refusal}
     (l : length bytes ≤ length lent) (c : CanonicalCall bytes lent answer now) where
   output : AcceptedOutput bytes (length lent) t
   output = record { accepted = h; output_holds = l }
@@ -271,7 +273,7 @@ module _ {bytes : List ℕ} {t : Trace} (h : AcceptedTrace bytes t) {lent now : 
 
 -- Two accepted files tidy to the same bytes if they have the same workers' operations,
 module _ {f g : List ℕ} {t u : Trace} (h : AcceptedTrace f t) (k : AcceptedTrace g u)
-    {f-lent f-now g-lent g-now : List ℕ} {f-answer g-answer : CanonicalAnswer}
+    {f-lent f-now g-lent g-now : List ℕ} {f-answer g-answer : Result ℕ Refusal}
     (l : length f ≤ length f-lent) (m : length g ≤ length g-lent)
     (c : CanonicalCall f f-lent f-answer f-now) (d : CanonicalCall g g-lent g-answer g-now) where
   pub canonical-same-bytes : SameWorkers t u → take (length f) f-now ≡ take (length g) g-now
@@ -287,7 +289,7 @@ module _ {f g : List ℕ} {t u : Trace} (h : AcceptedTrace f t) (k : AcceptedTra
 
 -- Tidying a tidied file gives it back:
 pub canonical-again : {bytes : List ℕ} {t : Trace} → AcceptedTrace bytes t
-    → {lent now again-lent again-now : List ℕ} {answer again : CanonicalAnswer} → length bytes ≤ length lent
+    → {lent now again-lent again-now : List ℕ} {answer again : Result ℕ Refusal} → length bytes ≤ length lent
     → CanonicalCall bytes lent answer now → length bytes ≤ length again-lent
     → CanonicalCall (take (length bytes) now) again-lent again again-now
     → take (length bytes) again-now ≡ take (length bytes) now

@@ -22,12 +22,14 @@ use Rattle.accept.specs.Acceptance.{AcceptedTrace}
 use Rattle.accept.proofs.Questions.{accepted-workers, accepted-run}
 use Rattle.pair_order.specs.Order.{order_answer}
 use Rattle.pair_order.specs.Refusals.{AcceptedPair}
-use Rattle.pair_order.specs.declared.OrderAnswer.TheVariants.{Ordered, Refused}
+use Rattle.std.specs.Prelude.{Result}
+use Rattle.trace.specs.declared.Refusal.{Refusal}
+use Rattle.trace.specs.Answer.{Refused}
+use Rattle.pair_order.specs.Order.{Ordered}
+use Rattle.two_runs.specs.Runs.{Runs}
 use Rattle.pair_order.proofs.Orders.{answer-sign, swapped-order, swapped-refusal}
 use Rattle.two_runs.specs.Refusals.{AcceptedRuns}
 use Rattle.two_runs.specs.Runs.{RunsCall}
-use Rattle.two_runs.specs.declared.RunsAnswer.{RunsAnswer}
-use Rattle.two_runs.specs.declared.RunsAnswer.TheVariants.{Runs}
 use Rattle.two_runs.proofs.Answers.{runs-given, runs-when}
 use Rattle.two_runs.proofs.Buffers.{StartsWithRun, after_first, after-second}
 
@@ -85,7 +87,7 @@ refusal-swapped bytes a b q k e = swapped-refusal bytes a b q k e
 -- For every accepted trace, any two numbers and any two buffers, and what the call (`RunsCall`) answers and leaves in
 -- the buffers:
 module _ {bytes : List ℕ} {t : Trace} (h : AcceptedTrace bytes t) {a b : ℕ}
-    {first second first-now second-now : List ℕ} {answer : RunsAnswer}
+    {first second first-now second-now : List ℕ} {answer : Result ℕ Refusal}
     (c : RunsCall bytes a b first second answer first-now second-now) where
   -- "Two runs are returned exactly when the pair order is 0 and both run buffers hold at least as many numbers as there
   -- are operations":

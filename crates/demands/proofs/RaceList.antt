@@ -12,7 +12,9 @@ use denote.Triple.Entry.{Args}
 use types.Logic.{Logic}
 use prog.Memory.{Memory}
 use prog.Routine.{Routine}
-use Rattle.races.specs.declared.RacesAnswer.{RacesAnswer}
+use Rattle.std.specs.Prelude.{Result}
+use Rattle.races.specs.declared.Races.{Races}
+use Rattle.trace.specs.declared.Refusal.{Refusal}
 use Rattle.race_list.specs.Listing.{ListCall}
 use Rattle.race_list.specs.contracts.race_list as race-list
 
@@ -25,7 +27,7 @@ module _ {M : Type 1} {𝓤 : Ura M} (𝓛 : Logic 𝓤) (mem : Memory → SProp
   race-list-requires = refl
 
   -- of the file, the table and the list that it is lent, the answer, and the table and the list at exit
-  pub race-list-ensures : (answer : RacesAnswer) (end : AtExit race-list.ended κs)
+  pub race-list-ensures : (answer : Result Races Refusal) (end : AtExit race-list.ended κs)
       → (race-list.clauses 𝓛 mem run κs args).ensures tt answer end
       ≡ ⌜ ListCall args.0.now args.1.0.now args.1.1.0.now answer end.1.0.now
       end.1.1.0.now ⌝

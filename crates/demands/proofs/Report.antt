@@ -16,7 +16,7 @@ use Rattle.trace.specs.Refusals.{by_earlier, by_this, file_numbers}
 use Rattle.trace.specs.Trace.{Trace, size}
 use Rattle.trace.proofs.Outcomes.{outcome-refused}
 use Rattle.accept.specs.Acceptance.{AcceptedTrace, accept_answer}
-use Rattle.accept.specs.declared.AcceptAnswer.TheVariants.{Refused}
+use Rattle.trace.specs.Answer.{Refused}
 use Rattle.accept.proofs.Answers.{answer-means}
 use Rattle.accept.proofs.Questions.{refused-file, refused-number, accepted-limits, accepted-workers}
 use Rattle.lent.proofs.Writing.{written-past}

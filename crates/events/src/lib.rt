@@ -9,7 +9,7 @@ pub fn is_missing(events: &[u64; 4], e: u32, need: u32) -> bool
     requires { (e < 256) × (need < 2) }
     ensures { result ≡ (eqb need 1 && not (is_posted events.now e)) }
 {
-    let mask = (need as u64) << (e % 64);
+    let mask = u64::from(need) << (e % 64);
     (events[(e / 64) as usize] & mask) != mask
 }
 
@@ -19,5 +19,5 @@ pub fn post(events: &mut [u64; 4], e: u32)
     ensures { events.new ≡ with_post events.old e }
 {
     let word = (e / 64) as usize;
-    events[word] = events[word] | (1u64 << (e % 64));
+    events[word] |= 1u64 << (e % 64);
 }

@@ -9,21 +9,13 @@ pub fn fill(list: &mut [u16], at: usize, count: usize, x: u16)
     requires { at + count ≤ length list.old }
     ensures { list.new ≡ paste list.old at (replicate count x) count }
 {
-    let mut i: usize = 0;
-    while i < count {
-        list[at + i] = x;
-        i += 1;
-    }
+    list[at..at + count].fill(x);
 }
 
 // Writes the first `count` numbers of a row, from a place of a list on.
 pub fn copy(list: &mut [u16], at: usize, count: usize, row: &[u16; 1024])
-    requires { (at + count ≤ length list.old) × (count ≤ 1024) × (length row.now ≡ 1024) }
+    requires { (at + count ≤ length list.old) × (count ≤ 1024) }
     ensures { list.new ≡ paste list.old at row.now count }
 {
-    let mut i: usize = 0;
-    while i < count {
-        list[at + i] = row[i];
-        i += 1;
-    }
+    list[at..at + count].copy_from_slice(&row[..count]);
 }

@@ -18,7 +18,7 @@ pub fn lowest(set: u16) -> u32
     requires { 0 < set }
     ensures { Lowest set result }
 {
-    u16::trailing_zeros(set)
+    set.trailing_zeros()
 }
 
 // The set with worker q.

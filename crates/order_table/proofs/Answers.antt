@@ -10,14 +10,14 @@ use Rattle.trace.specs.Premises.{HoldsTrace}
 use Rattle.trace.specs.Refusals.{by_earlier, by_this}
 use Rattle.trace.specs.Reading.{Reading, refused, trace_of}
 use Rattle.trace.specs.Trace.{size}
-use Rattle.trace.proofs.Outcomes.{TellsRefusals, outcome-refused, outcome-reads}
-use Rattle.accept.specs.declared.AcceptAnswer.TheVariants as accept
+use Rattle.trace.proofs.Outcomes.{tells-refusals, outcome-refused, outcome-reads, refuses-nothing, same-counts}
+use Rattle.trace.specs.Answer.{Refused, counts_of}
+use Rattle.order_table.specs.Table.{Filled}
 use Rattle.accept.specs.Acceptance.{AcceptedTrace, accept_answer}
 use Rattle.accept.proofs.Answers.{refused-answer}
 use Rattle.accept.proofs.Questions.{accepted-trace, accepted-holds}
 use Rattle.lent.specs.Left.{left_by}
 use Rattle.lent.specs.Written.{written_over}
-use Rattle.order_table.specs.declared.TableAnswer.TheVariants.{Filled, Refused}
 use Rattle.table_rows.specs.Rows.{order_table}
 use Rattle.order_table.specs.Table.{table_reading, answer_of, table_answer, table_after}
 use Rattle.order_table.specs.Table.{TableCall}
@@ -53,7 +53,7 @@ module _ {bytes : List ℕ} {p n : ℕ} (a : AcceptedTrace bytes (trace_of bytes
     pub call-short : length lent < n * p → TableCall bytes lent (Refused 11 0) lent
     call-short l = by-no bytes lent (by_this (trace_of bytes) a.0 (rw numbers l) refl refl)
 
-pub call-refused : (bytes lent : List ℕ) {q k : ℕ} → accept_answer bytes ≡ accept.Refused q k
+pub call-refused : (bytes lent : List ℕ) {q k : ℕ} → accept_answer bytes ≡ Refused q k
     → TableCall bytes lent (Refused q k) lent
 call-refused bytes lent {q} {k} i = by-no bytes lent (by_earlier ((refused-answer bytes q k).0 i))
 
@@ -63,19 +63,15 @@ module _ (bytes lent : List ℕ) where
   pub table-refused : (q k : ℕ)
       → (table_answer bytes lent ≡ Refused q k) ↔ (table_reading bytes (length lent) ≡ refused q k)
   unfolding table_answer
-  table-refused q k = outcome-refused answer_of tells (table_reading bytes (length lent)) q k
-    where
-      tells : TellsRefusals answer_of
-      tells = record { apart = λ q k t z. zero_one cc; same = λ q k x y z. cc }
+  table-refused q k = outcome-refused answer_of (tells-refusals _) (table_reading bytes (length lent)) q k
 
   -- the file is accepted and the table long enough; the trace has p workers and n operations
   pub table_filled : (p n : ℕ) → table_answer bytes lent ≡ Filled p n
       → AcceptedTable bytes (length lent) (trace_of bytes) × HoldsTrace bytes p n
   unfolding table_answer
   table_filled p n a =
-      let (t, e, i) = outcome-reads answer_of (λ q k z. zero_one cc) (table_reading bytes (length lent)) a in
+      let (t, e, i) = outcome-reads answer_of (refuses-nothing counts_of _) (table_reading bytes (length lent)) a in
       let passed = ((table-comes-out bytes (length lent)).passes t).0 e in
-      let ep : t.workers ≡ p = cc in
-      let en : size t ≡ n = cc in
+      let (ep, en) = same-counts t i in
       let same = accepted-trace passed.accepted in
       (rw same passed, rw (ep, en) at (accepted-holds passed.accepted))

@@ -9,13 +9,12 @@ use lib.Dec.{leb}
 use lib.ListN.{get_or}
 use Rattle.runs.specs.Workers.{earlier}
 use lib.IntN.{ℤ, pos, negsuc}
-use Rattle.basics.proofs.Booleans.{zero_one}
 use Rattle.trace.specs.Premises.{HoldsTrace}
 use Rattle.trace.specs.Reading.{Reading, refused, trace_of}
 use Rattle.trace.specs.Refusals.{by_earlier, by_this}
 use Rattle.trace.specs.Trace.{Trace, worker_of}
 use Rattle.trace.proofs.Fitting.{trace-fits}
-use Rattle.trace.proofs.Outcomes.{TellsRefusals, outcome-refused, outcome-reads}
+use Rattle.trace.proofs.Outcomes.{tells-refusals, outcome-refused, outcome-reads, refuses-nothing, same-result}
 use Rattle.model.specs.Computed.{must_precede_in, pair_order}
 use Rattle.model.proofs.SharedOrder.{order-first, order-second, order-neither}
 use Rattle.index.specs.Indexed.{Places}
@@ -23,15 +22,17 @@ use Rattle.index.proofs.Lookups.{holds-places}
 use Rattle.states.specs.States.{next_of}
 use Rattle.states.proofs.Answers.{exhausted-precedes}
 use Rattle.courses.specs.Courses.{Opens, Ended, LeftOut}
-use Rattle.accept.specs.declared.AcceptAnswer.TheVariants as accept
+use Rattle.trace.specs.Answer.{Refused}
+use Rattle.pair_order.specs.Order.{Ordered}
 use Rattle.accept.specs.Acceptance.{AcceptedTrace, accept_answer}
 use Rattle.accept.proofs.Accepting.{handed-opens, parts-few}
 use Rattle.accept.proofs.Answers.{refused-answer}
 use Rattle.accept.proofs.Questions.{accepted-trace}
-use Rattle.pair_order.specs.declared.OrderAnswer.{OrderAnswer}
-use Rattle.pair_order.specs.declared.OrderAnswer.TheVariants.{Ordered, Refused}
 use Rattle.pair_order.specs.Order.{pair_reading, answer_of, order_answer}
-use Rattle.pair_order.specs.Premises.{Operations, Readable, Pair, NoPair}
+use Rattle.index.specs.declared.IndexedFile.{IndexedFile}
+use Rattle.index.specs.Indexed.{Indexed}
+use Rattle.index.specs.Steps.{Handed}
+use Rattle.pair_order.specs.Premises.{Pair, NoPair}
 use Rattle.pair_order.specs.Refusals.{AcceptedNumbers, AcceptedPair, RefusedNumbers}
 use Rattle.pair_order.proofs.Questions.{pair-comes-out}
 
@@ -55,15 +56,31 @@ walked-past h x b l d e = sym (rw e (exhausted-precedes (trace-fits h) x.exhaust
 
 -- the sign, by the two tests
 module _ (t : Trace) (a b : ℕ) {forward : Bool} (i : forward ≡ must_precede_in t a b) where
-  pub ordered-before : forward ≡ true → Ordered (negsuc 0) ≡ Ordered (pair_order t a b)
-  ordered-before e = rw (order-first t a b (sym i ∙ e))
+  pub ordered-before : forward ≡ true → negsuc 0 ≡ pair_order t a b
+  ordered-before e = sym (order-first t a b (sym i ∙ e))
 
   module _ (e : forward ≡ false) {backward : Bool} (j : backward ≡ must_precede_in t b a) where
-    pub ordered-after : backward ≡ true → Ordered (pos 1) ≡ Ordered (pair_order t a b)
-    ordered-after f = rw (order-second t a b (sym i ∙ e) (sym j ∙ f))
+    pub ordered-after : backward ≡ true → pos 1 ≡ pair_order t a b
+    ordered-after f = sym (order-second t a b (sym i ∙ e) (sym j ∙ f))
 
-    pub ordered-neither : backward ≡ false → Ordered (pos 0) ≡ Ordered (pair_order t a b)
-    ordered-neither f = rw (order-neither t a b (sym i ∙ e) (sym j ∙ f))
+    pub ordered-neither : backward ≡ false → pos 0 ≡ pair_order t a b
+    ordered-neither f = sym (order-neither t a b (sym i ∙ e) (sym j ∙ f))
+
+-- a file that reads as a trace, and its index
+pub record Readable (bytes : List ℕ) (p n : ℕ) (order starts list ends : List ℕ) : Type 0 where
+  pub holds : HoldsTrace bytes p n
+  pub handed : Handed (trace_of bytes) order starts list ends
+
+pub readable : (x : IndexedFile)
+    → Readable x.trace.bytes.now x.trace.workers x.trace.operations x.index.now.order x.index.now.starts x.index.now.list
+    x.index.now.ends
+readable x = record { holds = x.trace.holds; handed = x.handed }
+
+-- of it, the operations by worker
+pub record Operations (bytes : List ℕ) (n : ℕ) (order starts : List ℕ) : Type 0 where
+  pub workers : ℕ
+  pub holds : HoldsTrace bytes workers n
+  pub indexed : Indexed (trace_of bytes) order starts
 
 -- worker and place of an operation, for the walk without it
 module _ {bytes : List ℕ} {p n : ℕ} {order starts list ends : List ℕ}
@@ -108,9 +125,9 @@ module _ {bytes : List ℕ} {p n : ℕ} (accepted : AcceptedTrace bytes (trace_o
   pub accepted-pair : Pair n a b → AcceptedPair bytes a b (trace_of bytes)
   accepted-pair y = record { numbers = numbers y.first_below y.second_below; differ = y.differ }
 
-  pub answer-ordered : Pair n a b → {r : OrderAnswer} → r ≡ Ordered (pair_order (trace_of bytes) a b)
-      → r ≡ order_answer bytes a b
-  answer-ordered y e = e ∙ answer-pair bytes a b (accepted-pair y)
+  pub answer-ordered : Pair n a b → {sign : ℤ} → sign ≡ pair_order (trace_of bytes) a b
+      → Ordered sign ≡ order_answer bytes a b
+  answer-ordered y e = rw e (answer-pair bytes a b (accepted-pair y))
 
   pub answer-high : (n ≤ a) ⊎ (n ≤ b) → Refused 12 0 ≡ order_answer bytes a b
   answer-high s = answer-by bytes a b (((pair-comes-out bytes a b).refuses 12 0).1 (by_earlier high))
@@ -129,7 +146,7 @@ module _ {bytes : List ℕ} {p n : ℕ} (accepted : AcceptedTrace bytes (trace_o
       same (inr (inl l)) = absurd (omega (arith, l, j))
       same (inr (inr e)) = e
 
-pub answer-unaccepted : (bytes : List ℕ) (a b : ℕ) {q k : ℕ} → accept_answer bytes ≡ accept.Refused q k
+pub answer-unaccepted : (bytes : List ℕ) (a b : ℕ) {q k : ℕ} → accept_answer bytes ≡ Refused q k
     → Refused q k ≡ order_answer bytes a b
 answer-unaccepted bytes a b {q} {k} i =
     let refusal = by_earlier (by_earlier ((refused-answer bytes q k).0 i)) in
@@ -140,17 +157,14 @@ answer-unaccepted bytes a b {q} {k} i =
 module _ (bytes : List ℕ) (a b : ℕ) where
   pub order-refused : (q k : ℕ) → (order_answer bytes a b ≡ Refused q k) ↔ (pair_reading bytes a b ≡ refused q k)
   unfolding order_answer
-  order-refused q k = outcome-refused (answer_of a b) tells (pair_reading bytes a b) q k
-    where
-      tells : TellsRefusals (answer_of a b)
-      tells = record { apart = λ q k t z. zero_one cc; same = λ q k x y z. cc }
+  order-refused q k = outcome-refused (answer_of a b) (tells-refusals _) (pair_reading bytes a b) q k
 
   -- a and b are two different operations of the accepted trace, and the sign is their order
   pub order-ordered : (sign : ℤ) → order_answer bytes a b ≡ Ordered sign
       → AcceptedPair bytes a b (trace_of bytes) × (sign ≡ pair_order (trace_of bytes) a b)
   unfolding order_answer
   order-ordered sign i =
-      let (t, e, j) = outcome-reads (answer_of a b) (λ q k z. zero_one cc) (pair_reading bytes a b) i in
+      let (t, e, j) = outcome-reads (answer_of a b) (refuses-nothing (λ t. pair_order t a b) _) (pair_reading bytes a b) i in
       let pair = ((pair-comes-out bytes a b).passes t).0 e in
-      let same : sign ≡ pair_order t a b = cc in
+      let same : sign ≡ pair_order t a b = sym (same-result j) in
       rw (accepted-trace pair.numbers.accepted) (pair, same)

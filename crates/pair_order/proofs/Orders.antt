@@ -10,7 +10,8 @@ use Rattle.trace.specs.Trace.{Trace}
 use Rattle.model.specs.Computed.{pair_order}
 use Rattle.model.proofs.SharedOrder.{pair-order-swap}
 use Rattle.accept.proofs.Questions.{accepted-workers, accepted-run}
-use Rattle.pair_order.specs.declared.OrderAnswer.TheVariants.{Ordered, Refused}
+use Rattle.trace.specs.Answer.{Refused}
+use Rattle.pair_order.specs.Order.{Ordered}
 use Rattle.pair_order.specs.Order.{order_answer}
 use Rattle.pair_order.specs.Refusals.{AcceptedNumbers, AcceptedPair, RefusedPair}
 use Rattle.pair_order.proofs.Answers.{answer-pair, order-refused, order-ordered}

@@ -1,32 +1,17 @@
 // The order of two operations of a file's trace.
 #![tactic(auto)]
 
-ghost use Rattle.std.specs.Prelude.{true, false, ◌≢◌, ◌≡◌, ◌<◌};
+ghost use Rattle.std.specs.Prelude.{true, false, ◌≢◌, ◌≡◌, ◌<◌, Err};
 ghost use Rattle.trace.specs.Reading.{trace_of};
 ghost use Rattle.runs.specs.Workers.{earlier};
 ghost use Rattle.trace.specs.Trace.{worker_of};
 ghost use Rattle.model.specs.Computed.{must_precede_in, pair_order};
 ghost use Rattle.courses.specs.Courses.{Ended};
-ghost use Rattle.pair_order.specs.declared.OrderAnswer.TheVariants.{Ordered, Refused};
 ghost use Rattle.pair_order.specs.Order.{order_answer};
-ghost use Rattle.pair_order.specs.Premises.{Operations, Readable, Pair, NoPair};
+ghost use Rattle.pair_order.specs.Premises.{Pair, NoPair};
 
-use accept::AcceptAnswer;
-use reader::ReadAnswer;
-
-// The pair order, −1, 0 or +1; or the refusal.
-#[derive(Clone, Copy)]
-pub enum OrderAnswer {
-    Ordered { sign: i8 },
-    Refused { number: u8, place: u32 },
-}
-
-// A refusal's number and place.
-#[derive(Clone, Copy)]
-pub struct Refusal {
-    pub number: u8,
-    pub place: u32,
-}
+use index::{Index, IndexedFile};
+use trace::Refusal;
 
 // Are two numbers different ones of so many operations?
 pub fn is_pair(operations: u32, a: u32, b: u32) -> bool
@@ -41,184 +26,86 @@ pub fn is_pair(operations: u32, a: u32, b: u32) -> bool
     false
 }
 
-// Which question refuses two numbers that are no pair: 10, 12 or 13.
-pub fn refuse(
-    file: &[u8],
-    p: u8,
-    n: u32,
-    order: &[u16; 1024],
-    starts: &[u16; 17],
-    list: &[u32; 1024],
-    ends: &[u16; 16],
-    a: u32,
-    b: u32,
-) -> Refusal
-    requires { Readable file.now p n order.now starts.now list.now ends.now
-        × NoPair n a b }
-    ensures { Refused result.number result.place ≡ order_answer file.now a b }
+// Which question refuses two numbers that are no pair: one of the file's, 12 or 13.
+pub fn refuse(x: &IndexedFile<'_>, a: u32, b: u32) -> Refusal
+    requires { NoPair x.now.trace.operations a b }
+    ensures { Err result ≡ order_answer x.now.trace.bytes.now a b }
 {
-    match accept::accept_if_complete(file, p, n, order, starts, list, ends) {
-        AcceptAnswer::Accepted { .. } => {
-            if n <= a {
-                return Refusal {
-                    number: 12,
-                    place: 0,
-                };
-            }
-            if n <= b {
-                return Refusal {
-                    number: 12,
-                    place: 0,
-                };
-            }
-            Refusal {
-                number: 13,
-                place: 0,
-            }
-        }
-        AcceptAnswer::Refused { number, place } => Refusal {
-            number: number,
-            place: place,
-        },
+    if let Err(refusal) = accept::accept_if_complete(x) {
+        return refusal;
+    }
+    let n = x.trace.operations;
+    if n <= a || n <= b {
+        return Refusal {
+            number: 12,
+            place: 0,
+        };
+    }
+    Refusal {
+        number: 13,
+        place: 0,
     }
 }
 
 // Must a precede b? From the done counts at the end of the walk without a: b's worker has not got past b.
-pub fn must_precede(
-    file: &[u8],
-    operations: u32,
-    order: &[u16; 1024],
-    starts: &[u16; 17],
-    done: &[u16; 16],
-    a: usize,
-    b: usize,
-) -> bool
-    requires { Operations file.now operations order.now starts.now
-        × Ended (trace_of file.now) a done.now
-        × (b < operations)
-        × (a ≢ b) }
-    ensures { result ≡ must_precede_in (trace_of file.now) a b }
+pub fn must_precede(x: &IndexedFile<'_>, done: &[u16; 16], a: usize, b: usize) -> bool
+    requires { Ended (trace_of x.now.trace.bytes.now) a done.now × (b < x.now.trace.operations) × (a ≢ b) }
+    ensures { result ≡ must_precede_in (trace_of x.now.trace.bytes.now) a b }
 {
-    let q = trace::worker_of(file, b) as usize;
-    let next = places::next_operation(operations as usize, order, starts, done, q);
+    let q = x.trace.worker(b);
+    let next = places::next_operation(x.index, x.trace.operations as usize, done, q);
     next <= b
 }
 
 // How many of its worker's operations come before operation k.
-pub fn count_prior(file: &[u8], n: u32, order: &[u16; 1024], starts: &[u16; 17], k: usize) -> u16
-    requires { Operations file.now n order.now starts.now × (k < n) }
-    ensures { result ≡ earlier (worker_of (trace_of file.now)) k }
+pub fn count_prior(x: &IndexedFile<'_>, k: usize) -> u16
+    requires { k < x.now.trace.operations }
+    ensures { result ≡ earlier (worker_of (trace_of x.now.trace.bytes.now)) k }
 {
-    places::count_prior(order, starts, trace::worker_of(file, k) as usize, k)
+    places::count_prior(x.index, x.trace.worker(k), k)
 }
 
-// The second direction, where a need not precede b: by the walk without b.
-fn order_back(
-    file: &[u8],
-    p: u8,
-    n: u32,
-    order: &[u16; 1024],
-    starts: &[u16; 17],
-    list: &[u32; 1024],
-    ends: &[u16; 16],
-    a: u32,
-    b: u32,
-) -> OrderAnswer
-    requires { Readable file.now p n order.now starts.now list.now ends.now
-        × Pair n a b
-        × (must_precede_in (trace_of file.now) a b ≡ false) }
-    ensures { result ≡ Ordered (pair_order (trace_of file.now) a b) }
+// The order where a need not precede b: by the walk without b.
+fn order_back(x: &IndexedFile<'_>, a: usize, b: usize) -> i8
+    requires { Pair x.now.trace.operations a b × (must_precede_in (trace_of x.now.trace.bytes.now) a b ≡ false) }
+    ensures { result ≡ pair_order (trace_of x.now.trace.bytes.now) a b }
 {
-    let prior = count_prior(file, n, order, starts, b as usize);
-    let q = trace::worker_of(file, b as usize) as usize;
-    let end = courses::walk_without(p as usize, q, prior, starts, list, ends);
-    let done = end.done;
-    if must_precede(file, n, order, starts, &done, b as usize, a as usize) {
-        return OrderAnswer::Ordered { sign: 1 };
+    let prior = count_prior(x, b);
+    let end = courses::walk_without(x.index, x.trace.workers as usize, x.trace.worker(b), prior);
+    if must_precede(x, &end.done, b, a) {
+        return 1;
     }
-    OrderAnswer::Ordered { sign: 0 }
+    0
 }
 
 // The order of two different operations. One walk, first without a and then with it, answers question 10 and the first
 // direction.
-fn order_between(
-    file: &[u8],
-    p: u8,
-    n: u32,
-    order: &[u16; 1024],
-    starts: &[u16; 17],
-    list: &[u32; 1024],
-    ends: &[u16; 16],
-    a: u32,
-    b: u32,
-) -> OrderAnswer
-    requires { Readable file.now p n order.now starts.now list.now ends.now
-        × Pair n a b }
-    ensures { result ≡ order_answer file.now a b }
+fn order_between(x: &IndexedFile<'_>, a: usize, b: usize) -> Result<i8, Refusal>
+    requires { Pair x.now.trace.operations a b }
+    ensures { result ≡ order_answer x.now.trace.bytes.now a b }
 {
-    let prior = count_prior(file, n, order, starts, a as usize);
-    let q = trace::worker_of(file, a as usize) as usize;
-    let end = courses::walk_twice(p as usize, q, prior, starts, list, ends);
-    let held = end.held;
-    let whole = end.whole;
-    match accept::accept_if_done(file, p, n, order, starts, &whole) {
-        AcceptAnswer::Accepted { .. } => {
-            if must_precede(file, n, order, starts, &held, a as usize, b as usize) {
-                return OrderAnswer::Ordered { sign: -1 };
-            }
-            order_back(file, p, n, order, starts, list, ends, a, b)
-        }
-        AcceptAnswer::Refused { number, place } => OrderAnswer::Refused {
-            number: number,
-            place: place,
-        },
+    let prior = count_prior(x, a);
+    let end = courses::walk_twice(x.index, x.trace.workers as usize, x.trace.worker(a), prior);
+    accept::accept_if_done(x, &end.whole)?;
+    if must_precede(x, &end.held, a, b) {
+        return Ok(-1);
     }
-}
-
-// The order of two numbers of a file that reads as a trace, or the refusal by 10, 12 or 13.
-fn order_if_pair(
-    file: &[u8],
-    p: u8,
-    n: u32,
-    order: &[u16; 1024],
-    starts: &[u16; 17],
-    list: &[u32; 1024],
-    ends: &[u16; 16],
-    a: u32,
-    b: u32,
-) -> OrderAnswer
-    requires { Readable file.now p n order.now starts.now list.now ends.now }
-    ensures { result ≡ order_answer file.now a b }
-{
-    if is_pair(n, a, b) {
-        return order_between(file, p, n, order, starts, list, ends, a, b);
-    }
-    let no = refuse(file, p, n, order, starts, list, ends, a, b);
-    OrderAnswer::Refused {
-        number: no.number,
-        place: no.place,
-    }
+    Ok(order_back(x, a, b))
 }
 
 // Asks the file's questions, 12 and 13, of any bytes and any two numbers; where none refuses, the order of the two
-// operations.
-pub fn pair_order(file: &[u8], a: u32, b: u32) -> OrderAnswer
+// operations: −1, 0 or +1.
+pub fn pair_order(file: &[u8], a: u32, b: u32) -> Result<i8, Refusal>
     ensures { result ≡ order_answer file.now a b }
 {
-    let mut order = [0u16; 1024];
-    let mut starts = [0u16; 17];
-    let mut list = [0u32; 1024];
-    let mut ends = [0u16; 16];
-    match accept::read_index(file, &mut order, &mut starts, &mut list, &mut ends) {
-        ReadAnswer::Read {
-            workers,
-            operations,
-        } => order_if_pair(
-            file, workers, operations, &order, &starts, &list, &ends, a, b,
-        ),
-        ReadAnswer::Refused { number, place } => OrderAnswer::Refused {
-            number: number,
-            place: place,
-        },
+    let trace = reader::open(file)?;
+    let index = Index::of(&trace);
+    let x = IndexedFile {
+        trace,
+        index: &index,
+    };
+    if is_pair(trace.operations, a, b) {
+        return order_between(&x, a as usize, b as usize);
     }
+    Err(refuse(&x, a, b))
 }

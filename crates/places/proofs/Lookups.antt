@@ -48,16 +48,16 @@ module _ (t : Trace) (counts : List ℕ) where
 
 -- ---- how many come before operation k, by a search through its worker's part: `at` is the next place
 
-pub record Unfound (order : List ℕ) (first end k at : ℕ) : Type 0 where
+pub record Unfound (order : List ℕ) (first k at : ℕ) : Type 0 where
   pub from_on : first ≤ at
   pub not_there : (j : ℕ) → first ≤ j → j < at → get_or order j 0 ≢ k
 
-pub unfound-start : (order : List ℕ) (first end k : ℕ) → Unfound order first end k first
-unfound-start order first end k = record { from_on = omega arith; not_there = λ j h l. absurd (omega arith) }
+pub unfound-start : (order : List ℕ) (first k : ℕ) → Unfound order first k first
+unfound-start order first k = record { from_on = omega arith; not_there = λ j h l. absurd (omega arith) }
 
-pub unfound-next : {order : List ℕ} {first end k at : ℕ} → Unfound order first end k at → get_or order at 0 ≢ k
-    → Unfound order first end k (at + 1)
-unfound-next {order} {first} {end} {k} {at} x d =
+pub unfound-next : {order : List ℕ} {first k at : ℕ} → Unfound order first k at → get_or order at 0 ≢ k
+    → Unfound order first k (at + 1)
+unfound-next {order} {first} {k} {at} x d =
     record { from_on = omega (arith, x.from_on); not_there = λ j h l. step j h l (equal? j at) }
   where
     step : (j : ℕ) → first ≤ j → j < at + 1 → (j ≡ at) ⊎ (j ≢ at) → get_or order j 0 ≢ k
@@ -78,7 +78,7 @@ module _ {t : Trace} {n : ℕ} {order starts : List ℕ} (x : Places t n order s
       rw (same, e) at (sym r.ahead)
 
   -- it is
-  pub prior-there : {at : ℕ} → Unfound order (get_or starts q 0) (get_or starts (q + 1) 0) k at → get_or starts (q + 1) 0 ≤ at
+  pub prior-there : {at : ℕ} → Unfound order (get_or starts q 0) k at → get_or starts (q + 1) 0 ≤ at
       → ⊥
   prior-there {at} u l =
       let i = count (worker_of t) q (up_to k) in

@@ -1,5 +1,5 @@
 // Operations by the index: a worker's next one, the lowest that is left, how many come before one. For the crates
-// above, which have read the file and filled its index before.
+// above, which have read the file and made its index before.
 #![tactic(auto)]
 
 ghost use Rattle.std.specs.Prelude.{◌≡◌, ℕ, ◌+◌, ◌<◌, ◌≤◌, get_or};
@@ -8,42 +8,31 @@ ghost use Rattle.trace.specs.Trace.{Trace, worker_of};
 ghost use Rattle.index.specs.Indexed.{Places};
 ghost use Rattle.states.specs.States.{next_of, lowest_left};
 
+use index::Index;
+
 // Worker q's next operation, of n operations; n where it has none left.
-pub fn next_operation(
-    n: usize,
-    order: &[u16; 1024],
-    starts: &[u16; 17],
-    done: &[u16; 16],
-    q: usize,
-) -> usize
-    requires { (q < 16) × (get_or starts.now (q + 1) 0 ≤ 1024) }
-    ensures { (t : Trace) → Places t n order.now starts.now → q < t.workers
+pub fn next_operation(index: &Index, n: usize, done: &[u16; 16], q: usize) -> usize
+    requires { (q < 16) × (get_or index.now.starts (q + 1) 0 ≤ 1024) }
+    ensures { (t : Trace) → Places t n index.now.order index.now.starts → q < t.workers
         → result ≡ next_of t done.now q }
 {
-    let at = basics::index(starts[q]) + basics::index(done[q]);
-    if at < basics::index(starts[q + 1]) {
-        return basics::index(order[at]);
+    let at = usize::from(index.starts[q]) + usize::from(done[q]);
+    if at < usize::from(index.starts[q + 1]) {
+        usize::from(index.order[at])
+    } else {
+        n
     }
-    n
 }
 
 // The lowest of the p workers' next operations; n where none has one left.
-pub fn lowest_left(
-    p: usize,
-    n: usize,
-    order: &[u16; 1024],
-    starts: &[u16; 17],
-    done: &[u16; 16],
-) -> usize
-    requires { (p ≤ 16) × ((q : ℕ) → q < 16 → get_or starts.now (q + 1) 0 ≤ 1024) }
-    ensures { (t : Trace) → Places t n order.now starts.now → p ≡ t.workers
+pub fn lowest_left(index: &Index, p: usize, n: usize, done: &[u16; 16]) -> usize
+    requires { (p ≤ 16) × ((q : ℕ) → q < 16 → get_or index.now.starts (q + 1) 0 ≤ 1024) }
+    ensures { (t : Trace) → Places t n index.now.order index.now.starts → p ≡ t.workers
         → result ≡ lowest_left t done.now p }
 {
     let mut least = n;
-    let mut q: usize = 0;
-    while q < p {
-        let k = next_operation(n, order, starts, done, q);
-        q += 1;
+    for q in 0..p {
+        let k = next_operation(index, n, done, q);
         if k < least {
             least = k;
         }
@@ -52,19 +41,16 @@ pub fn lowest_left(
 }
 
 // How many of worker q's operations come before operation k, which is one of them.
-pub fn count_prior(order: &[u16; 1024], starts: &[u16; 17], q: usize, k: usize) -> u16
-    requires { (q < 16) × (get_or starts.now (q + 1) 0 ≤ 1024) }
-    ensures { (t : Trace) (n : ℕ) → Places t n order.now starts.now → k < n
+pub fn count_prior(index: &Index, q: usize, k: usize) -> u16
+    requires { (q < 16) × (get_or index.now.starts (q + 1) 0 ≤ 1024) }
+    ensures { (t : Trace) (n : ℕ) → Places t n index.now.order index.now.starts → k < n
         → worker_of t k ≡ q → result ≡ earlier (worker_of t) k }
 {
-    let first = basics::index(starts[q]);
-    let end = basics::index(starts[q + 1]);
-    let mut at = first;
-    while at < end {
-        if basics::index(order[at]) == k {
+    let first = usize::from(index.starts[q]);
+    for at in first..usize::from(index.starts[q + 1]) {
+        if usize::from(index.order[at]) == k {
             return (at - first) as u16;
         }
-        at += 1;
     }
     0
 }

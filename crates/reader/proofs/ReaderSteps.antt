@@ -10,19 +10,20 @@ use native.Mathlib.Numerals.{add-one}
 use native.Mathlib.Omega.{arith}
 use Prim.Native.Nat.{ℕ, suc, ◌+◌, ◌*◌, ◌-◌, ◌<◌, ◌≤◌}
 use lib.Dec.{eqb}
+use Rattle.std.specs.Prelude.{None, Some}
 use lib.ListN.{length, drop}
 use lib.Seq.{drop-drop}
-use borrow.Author.Tests.{eq-eqb, ne_eqb}
+use borrow.Author.Tests.{eq-eqb, ne_eqb, eqb-true, eqb-false}
 use Rattle.trace.specs.declared.Operation.{Operation}
 use Rattle.trace.specs.Form.{Form, base, record_size, start}
 use Rattle.trace.specs.Questions.{operation_in, marked, header_question, worker_known, kind_known, event_fits, cells_fit}
 use Rattle.trace.specs.Questions.{record_question}
-use Rattle.trace.specs.Reading.{Reading, reading, reading_from}
+use Rattle.trace.specs.Reading.{Reading, refused, reads, reading, reading_from}
 use Rattle.trace.specs.Refusals.{operations_in}
 use Rattle.trace.proofs.Answered.{HeaderAnswered, header-answered, ranked-base}
 use Rattle.trace.proofs.Records.{start-inside, length-operations, operations-more}
-use Rattle.reader.specs.declared.ReadAnswer.TheVariants.{Read, Refused}
-use Rattle.reader.specs.Answer.{answer_of}
+use Rattle.basics.proofs.Booleans.{zero_one}
+use Rattle.reader.specs.Answer.{refusing}
 use Rattle.reader.specs.Premises.{HoldsHeader}
 
 -- ---- as the code tests a record
@@ -63,8 +64,8 @@ passes-told p before bytes o m w k e c i j l r =
 -- ---- the header
 
 module _ (f : Form) (bytes : List ℕ) (q : ℕ) (asked : q ≡ header_question f bytes) where
-  pub header-refuses : (q ≡ 0 → ⊥) → answer_of (reading f bytes) ≡ Refused q 0
-  unfolding reading answer_of
+  pub header-refuses : (q ≡ 0 → ⊥) → reading f bytes ≡ refused q 0
+  unfolding reading
   header-refuses e = simp (← asked, ne_eqb _ _ e)
 
   pub header-holds : (o : Operation) → o ≡ operation_in bytes → q ≡ 0 → HoldsHeader f bytes o.worker o.number
@@ -106,12 +107,10 @@ module _ (f : Form) (bytes : List ℕ) (p n : ℕ) (h : HoldsHeader f bytes p n)
       simp (eq-eqb _ _ h.passes, sub-zero, mul-zero, add-zero)
       (rw (h.workers, h.count))
 
-  pub records-end : (k : ℕ) → n ≤ k → k ≤ n → answer_of (reading_at f p n bytes k) ≡ Read p n
-  unfolding reading_from answer_of
-  records-end k l u =
-      let none : n - k ≡ 0 = omega arith in
-      let all : k ≡ n = omega arith in
-      rw none (rw (length-operations, all))
+  pub records-end : reading_at f p n bytes n
+      ≡ reads (record { workers = p; operations = operations_in f n (drop (record_size f) bytes) })
+  unfolding reading_from
+  records-end = let none : n - n ≡ 0 = omega arith in rw none
 
   module _ (k at q : ℕ) (l : k < n) (here : at ≡ start f k)
       (asked : (before : List Operation) → q ≡ record_question f p before (drop at bytes)) where
@@ -126,6 +125,30 @@ module _ (f : Form) (bytes : List ℕ) (p n : ℕ) (h : HoldsHeader f bytes p n)
     record-passes e =
         rw left_step (simp (question-here, eq-eqb _ _ e, next_start f k bytes, next-operation f k bytes))
 
-    pub record-refuses : (q ≡ 0 → ⊥) → answer_of (reading_at f p n bytes k) ≡ Refused q k
-    unfolding reading_from answer_of
+    pub record-refuses : (q ≡ 0 → ⊥) → reading_at f p n bytes k ≡ refused q k
+    unfolding reading_from
     record-refuses e = rw left_step (simp (question-here, ne_eqb _ _ e, length-operations))
+
+-- ---- which question refuses, if one does
+
+some_none : {n : ℕ} → Some n ≡ None → ⊥
+some_none e = zero_one cc
+
+some_same : {n q : ℕ} → Some n ≡ Some q → n ≡ q
+some_same e = cc
+
+pub refuses-some : {q n : ℕ} → Some n ≡ refusing q → (n ≡ q) × (n ≡ 0 → ⊥)
+refuses-some {q} {n} e = go (eqb q 0) refl
+  where
+    go : (b : Bool) → eqb q 0 ≡ b → (n ≡ q) × (n ≡ 0 → ⊥)
+    go true d = absurd (some_none (rw d at e))
+    go false d =
+        let same : n ≡ q = some_same (rw d at e) in
+        (same, λ z. eqb-false q 0 d (sym same ∙ z))
+
+pub refuses-none : {q : ℕ} → None ≡ refusing q → q ≡ 0
+refuses-none {q} e = go (eqb q 0) refl
+  where
+    go : (b : Bool) → eqb q 0 ≡ b → q ≡ 0
+    go true d = eqb-true q 0 d
+    go false d = absurd (some_none (sym (rw d at e)))

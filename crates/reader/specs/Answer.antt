@@ -1,12 +1,16 @@
 -- What the reader answers, by document 01's numbers.
--- Follows: document 01, "The questions" ("a refusal is the number and a place"). The enum is that of src/lib.rt.
+-- Follows: document 01, "The questions" ("a refusal is the number and a place").
 -- Differs: nowhere.
-use Rattle.trace.specs.Reading.{Reading, refused, reads}
-use Rattle.trace.specs.Trace.{size}
-use Rattle.reader.specs.declared.ReadAnswer.{ReadAnswer}
-use Rattle.reader.specs.declared.ReadAnswer.TheVariants.{Read, Refused}
+use Rattle.std.specs.Prelude.{cond, ℕ, eqb, Option, None, Some, Result}
+use Rattle.trace.specs.declared.Counts.{Counts}
+use Rattle.trace.specs.declared.Refusal.{Refusal}
+use Rattle.trace.specs.Answer.{counts_of, answer_by}
+use Rattle.trace.specs.Reading.{Reading}
 
--- `Refused`: the number and the place. `Read`: the worker count p and the operation count n
-unfoldable pub answer_of : Reading → ReadAnswer
-answer_of (refused number place) = Refused number place
-answer_of (reads t) = Read t.workers (size t)
+-- the worker count p and the operation count n, or the refusal
+unfoldable pub answer_of : Reading → Result Counts Refusal
+answer_of r = answer_by counts_of r
+
+-- which question refuses; none where its number is 0
+abbrev pub refusing : ℕ → Option ℕ
+refusing q = cond (eqb q 0) None (Some q)

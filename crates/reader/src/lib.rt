@@ -1,24 +1,17 @@
-// Reading a trace file: the questions of its header and of its records. Only `read` is called from other crates; it
-// requires nothing.
+// Reading a trace file: the questions of its header and of its records. Only `read` and `open` are called from other
+// crates; they require nothing.
 #![tactic(auto)]
 
-ghost use Rattle.std.specs.Prelude.{List, ◌≡◌, ◌+◌, ◌≤◌, eqb, length, drop};
+ghost use Rattle.std.specs.Prelude.{List, ◌≡◌, ◌+◌, ◌≤◌, eqb, length, drop, MatchResult};
 ghost use Rattle.trace.specs.declared.Operation.{Operation};
 ghost use Rattle.trace.specs.Form.{base, record_size};
 ghost use Rattle.trace.specs.Questions.{marked, is_header, workers_fit, count_fits, is_whole, header_question};
 ghost use Rattle.trace.specs.Questions.{worker_known, kind_known, event_fits, cells_fit, record_question};
-ghost use Rattle.trace.specs.Reading.{file_reading};
-ghost use Rattle.reader.specs.Answer.{answer_of};
+ghost use Rattle.trace.specs.Reading.{refused, reads, file_reading, trace_of};
+ghost use Rattle.reader.specs.Answer.{answer_of, refusing};
 ghost use Rattle.reader.specs.Premises.{HoldsHeader};
 
-use trace::{MARK, Operation, RECORD_SIZE};
-
-// The worker count and the operation count of a file that reads as a trace, or the refusal.
-#[derive(Clone, Copy)]
-pub enum ReadAnswer {
-    Read { workers: u8, operations: u32 },
-    Refused { number: u8, place: u32 },
-}
+use trace::{Counts, MARK, Operation, RECORD_SIZE, Refusal, TraceFile};
 
 // Does the record at a place start with the mark? Question 5, and a part of question 1.
 fn is_marked(file: &[u8], at: usize) -> bool
@@ -65,24 +58,24 @@ fn is_whole(file: &[u8], n: u32) -> bool
     file.len() == size
 }
 
-// Questions 1 to 4; 0 where none refuses.
-fn header_question(file: &[u8]) -> u8
-    ensures { result ≡ header_question base file.now }
+// Which of the questions 1 to 4 refuses, if one does.
+fn header_question(file: &[u8]) -> Option<u8>
+    ensures { result ≡ refusing (header_question base file.now) }
 {
     if !is_header(file) {
-        return 1;
+        return Some(1);
     }
     let header = trace::operation_in(file, 0);
     if !workers_fit(header.worker) {
-        return 2;
+        return Some(2);
     }
     if !count_fits(header.number) {
-        return 3;
+        return Some(3);
     }
     if !is_whole(file, header.number) {
-        return 4;
+        return Some(4);
     }
-    0
+    None
 }
 
 // Question 6.
@@ -116,30 +109,6 @@ fn cells_fit(o: Operation) -> bool
     basics::either(!trace::is_access(o.kind), fit)
 }
 
-// The questions of the record at a place, whatever stands before it; 0 where none refuses.
-fn record_question(file: &[u8], at: usize, p: u8) -> u8
-    requires { at + record_size base ≤ length file.now }
-    ensures { (before : List Operation) → result ≡ record_question base p before (drop at file.now) }
-{
-    if !is_marked(file, at) {
-        return 5;
-    }
-    let o = trace::operation_in(file, at);
-    if !worker_known(p, o) {
-        return 6;
-    }
-    if !kind_known(o) {
-        return 7;
-    }
-    if !event_fits(o) {
-        return 8;
-    }
-    if !cells_fit(o) {
-        return 9;
-    }
-    0
-}
-
 // Does no question refuse the record at a place? All are asked, so that the answer hangs on no branch by the kind.
 fn record_passes(file: &[u8], at: usize, p: u8) -> bool
     requires { at + record_size base ≤ length file.now }
@@ -152,39 +121,66 @@ fn record_passes(file: &[u8], at: usize, p: u8) -> bool
     basics::both(is_marked(file, at), basics::both(kind, number))
 }
 
-// The questions of each record of a file of p workers and n operations, whose header no question refuses.
-fn read_records(file: &[u8], p: u8, n: u32) -> ReadAnswer
-    requires { HoldsHeader base file.now p n }
-    ensures { result ≡ answer_of (file_reading file.now) }
+// Which question refuses the record at a place, whatever stands before it, if one does.
+fn record_question(file: &[u8], at: usize, p: u8) -> Option<u8>
+    requires { at + record_size base ≤ length file.now }
+    ensures { (before : List Operation) → result ≡ refusing (record_question base p before (drop at file.now)) }
 {
-    let mut k: u32 = 0;
-    while k < n {
-        let at = trace::record_start(k as usize);
-        if !record_passes(file, at, p) {
-            return ReadAnswer::Refused {
-                number: record_question(file, at, p),
-                place: k,
-            };
-        }
-        k += 1;
+    if record_passes(file, at, p) {
+        return None;
     }
-    ReadAnswer::Read {
-        workers: p,
-        operations: n,
+    if !is_marked(file, at) {
+        return Some(5);
     }
+    let o = trace::operation_in(file, at);
+    if !worker_known(p, o) {
+        return Some(6);
+    }
+    if !kind_known(o) {
+        return Some(7);
+    }
+    if !event_fits(o) {
+        return Some(8);
+    }
+    if !cells_fit(o) {
+        return Some(9);
+    }
+    None
 }
 
-// The questions of the header and of each record, of any bytes.
-pub fn read(file: &[u8]) -> ReadAnswer
-    ensures { result ≡ answer_of (file_reading file.now) }
+// The questions of each record of a file of p workers and n operations, whose header no question refuses.
+fn ask_records(file: &[u8], p: u8, n: u32) -> Result<(), Refusal>
+    requires { HoldsHeader base file.now p n }
+    ensures { MatchResult result (λ all. file_reading file.now ≡ reads (trace_of file.now))
+        (λ r. file_reading file.now ≡ refused r.number r.place) }
 {
-    let q = header_question(file);
-    if q != 0 {
-        return ReadAnswer::Refused {
-            number: q,
-            place: 0,
-        };
+    for k in 0..n {
+        let at = trace::record_start(k as usize);
+        if let Some(number) = record_question(file, at, p) {
+            return Err(Refusal { number, place: k });
+        }
+    }
+    Ok(())
+}
+
+// The questions of the header and of each record, of any bytes; where none refuses, the file as one that reads as a
+// trace.
+pub fn open(file: &[u8]) -> Result<TraceFile<'_>, Refusal>
+    ensures { MatchResult result (λ t. t.bytes.now ≡ file.now)
+        (λ r. file_reading file.now ≡ refused r.number r.place) }
+{
+    if let Some(number) = header_question(file) {
+        return Err(Refusal { number, place: 0 });
     }
     let header = trace::operation_in(file, 0);
-    read_records(file, header.worker, header.number)
+    ask_records(file, header.worker, header.number)?;
+    Ok(TraceFile::of(file))
+}
+
+// The same, and the trace's counts.
+pub fn read(file: &[u8]) -> Result<Counts, Refusal>
+    ensures { result ≡ answer_of (file_reading file.now) }
+{
+    let trace = open(file)?;
+    Ok(trace.counts())
 }

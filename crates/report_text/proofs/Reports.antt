@@ -9,7 +9,9 @@ use Rattle.trace.specs.Reading.{Reading, refused, reads}
 use Rattle.trace.specs.Trace.{Trace}
 use Rattle.race_model.specs.RaceList.{race_list, race_count}
 use Rattle.lent.proofs.Writing.{written-length}
-use Rattle.races.specs.declared.RacesAnswer.{RacesAnswer}
+use Rattle.std.specs.Prelude.{Result}
+use Rattle.races.specs.declared.Races.{Races}
+use Rattle.trace.specs.declared.Refusal.{Refusal}
 use Rattle.races.specs.Races.{races_reading, races_answer, race_records, to_write, shorter, RacesCall}
 use Rattle.races.specs.Refusals.{AcceptedRaces}
 use Rattle.races.proofs.Answers.{answer-by}
@@ -26,7 +28,7 @@ unfolding report_text
 text-by bytes e = rw e
 
 -- what the call knows: the race list is asked with that much space
-pub record Asked (bytes : List ℕ) (answer : RacesAnswer) (lower higher : List ℕ) : Type 0 where
+pub record Asked (bytes : List ℕ) (answer : Result Races Refusal) (lower higher : List ℕ) : Type 0 where
   pub answers : answer ≡ races_answer bytes table_space race_space
   pub lower-length : length lower ≡ race_space
   pub higher-length : length higher ≡ race_space
@@ -34,7 +36,7 @@ pub record Asked (bytes : List ℕ) (answer : RacesAnswer) (lower higher : List 
       → take (race_count t) (race_records lower higher) ≡ race_list t
 
 -- it is lent zeros
-pub races-asked : {bytes table-now lower higher : List ℕ} {answer : RacesAnswer}
+pub races-asked : {bytes table-now lower higher : List ℕ} {answer : Result Races Refusal}
     → RacesCall bytes (replicate table_space 0) (replicate race_space 0) (replicate race_space 0) answer table-now lower
     higher
     → Asked bytes answer lower higher
@@ -62,7 +64,7 @@ races-asked {bytes} c =
         → AcceptedRaces bytes (length table) (shorter (length list) (length list)) t
     same h = rw (table-length, list_length, list_length) h
 
-module _ {bytes : List ℕ} {answer : RacesAnswer} {lower higher : List ℕ} (a : Asked bytes answer lower higher) where
+module _ {bytes : List ℕ} {answer : Result Races Refusal} {lower higher : List ℕ} (a : Asked bytes answer lower higher) where
   -- there is room for what is listed
   pub asked-room : {output : List ℕ} → length output ≡ 69676 → ListingRoom output lower higher (to_write answer)
   asked-room {output} o = go (races_reading bytes table_space race_space) refl

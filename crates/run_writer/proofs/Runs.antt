@@ -2,7 +2,7 @@
 use mathlib.Core.List.{List, [], ◌++◌, append-nil}
 use mathlib.Core.Path.{◌≡◌, refl}
 use Prim.Native.Nat.{ℕ, ◌+◌, ◌-◌}
-use lib.ListN.{length, get_or, set, replicate}
+use lib.ListN.{length, get_or, set}
 use Rattle.runs.specs.Workers.{HoldsBack, no_step}
 use Rattle.runs.proofs.Done.{done-append}
 use Rattle.runs.proofs.HoldingBack.{holds-back-unique}
@@ -14,7 +14,7 @@ use Rattle.model.specs.Rule.{rule}
 use Rattle.model.proofs.RuleLaws.{rule-monotone, rule-in-turn, order-ascending, order-preference}
 use Rattle.states.proofs.Answers.{workers-known}
 use Rattle.walk.proofs.Turns.{going-closed, going-exhausted}
-use Rattle.courses.specs.Courses.{BegunWithout, LeftOut}
+use Rattle.courses.specs.Courses.{Unstarted, BegunWithout, LeftOut}
 use Rattle.courses.proofs.Starting.{without-sized, let-in-sized, going-without, going-let-in}
 use Rattle.run_writer.specs.Writing.{Written, WritesRun}
 
@@ -22,16 +22,15 @@ module _ {t : Trace} {p : ℕ} {starts list ends : List ℕ} {q prior b : ℕ} (
     {nexts stops lasts : List ℕ} (y : BegunWithout starts list ends q prior nexts stops lasts) where
   -- ---- the start
 
-  pub written_start : {all : ℕ} → Below p all → {run : List ℕ} → length run ≡ 1024
-      → Written t b [] list stops lasts nexts (replicate 16 0) (replicate 4 0) (replicate 256 0) all 0 run
-  written_start all room =
+  pub written_start : {counts events waiting : List ℕ} → Unstarted counts events waiting → {all : ℕ} → Below p all → {run : List ℕ}
+      → Written t b [] list stops lasts nexts counts events waiting all 0 run
+  written_start none all =
       record {
         more = [];
-        going = going-without x y all;
+        going = going-without x y none all;
         lowest = no_step;
-        sized = without-sized y refl refl refl;
+        sized = without-sized y;
         long = refl;
-        room = room;
         front = refl;
       }
 
@@ -49,7 +48,6 @@ module _ {t : Trace} {p : ℕ} {starts list ends : List ℕ} {q prior b : ℕ} (
           lowest = no_step;
           sized = let-in-sized y w.sized i.0;
           long = rw append-nil w.long;
-          room = w.room;
           front = rw append-nil w.front;
         }
 
@@ -75,8 +73,8 @@ module _ {t : Trace} {p : ℕ} {starts list ends : List ℕ} {q prior b : ℕ} (
           holds-back-unique (rule-monotone t) (order-ascending t) (order-preference (workers-known x.fits))
           (rule-in-turn t) b holds
 
-      pub writes-run : WritesRun t b counts counts'' run''
-      writes-run =
+      pub writes-run : length run'' ≡ 1024 → WritesRun t b counts counts'' run''
+      writes-run room =
           record {
             without_b = record { run = w.more; events = events; exhausted = going-exhausted x.fits w.going };
             whole_run = record {
@@ -85,5 +83,5 @@ module _ {t : Trace} {p : ℕ} {starts list ends : List ℕ} {q prior b : ℕ} (
               exhausted = going-exhausted x.fits v.going;
             };
             front = rw (← held_back, v.long) v.front;
-            room = v.room;
+            room = room;
           }

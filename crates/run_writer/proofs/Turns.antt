@@ -1,15 +1,15 @@
--- A run written turn by turn. In order: a stretch of the order; how far a worker can get; one turn more;
--- one number more.
+-- A run written turn by turn. In order: a stretch of the order; how far a worker can get; one turn more; what is copied.
 use mathlib.Core.Bool.{true}
 use mathlib.Core.List.{List, [], ◌++◌, append_assoc}
 use mathlib.Core.Logic.{inl}
 use mathlib.Core.Path.{◌≡◌, refl, sym, ap, ◌∙◌}
-use native.Mathlib.Numerals.{add-one}
 use native.Mathlib.Omega.{arith}
 use Prim.Native.Nat.{ℕ, ◌+◌, ◌-◌, ◌<◌, ◌≤◌}
 use lib.Dec.{eqb}
-use lib.ListN.{length, get_or, set, take, drop, length-append, length-drop}
-use lib.Seq.{ext_get_or, get_or-take, get_or-drop, length-take-le, paste, paste-suc, take-paste, length-paste}
+use lib.ListN.{length, get_or, take, drop, length-append, length-drop}
+use borrow.Rule.Slice.PartMut.{put_mid}
+use Rattle.std.proofs.lemmas.Slice.{put_mid-paste}
+use lib.Seq.{ext_get_or, get_or-take, get_or-drop, length-take-le, paste, take-paste, take_all}
 use Rattle.basics.specs.Membership.{◌⊆◌, up_to}
 use Rattle.runs.specs.Workers.{count, operations_of}
 use Rattle.runs.proofs.Done.{done-append}
@@ -136,10 +136,10 @@ module _ {t : Trace} {n : ℕ} {order starts : List ℕ} (x : Places t n order s
   pub turn-room : at + (get_or counts' q 0 - get_or counts q 0) ≤ 1024
   turn-room = omega (arith, long, run_length after.0.run.is_a_run, x.count, few)
 
-  pub written-turn : Written t a base list ends lasts nexts' counts' events' waiting' ready'
+  pub written-turn : length run ≡ 1024 → Written t a base list ends lasts nexts' counts' events' waiting' ready'
       (at + (get_or counts' q 0 - get_or counts q 0))
       (paste run at (drop (get_or starts q 0 + get_or counts q 0) order) (get_or counts' q 0 - get_or counts q 0))
-  written-turn =
+  written-turn room =
       record {
         more = w.more ++ stretch t q i j;
         going = rw together after.0;
@@ -147,8 +147,7 @@ module _ {t : Trace} {n : ℕ} {order starts : List ℕ} (x : Places t n order s
             (u.lowest refl t a 16 (base ++ w.more) w.going));
         sized = u.sized;
         long = rw together long;
-        room = length-paste run at part m (omega (arith, turn-room, w.room)) inside ∙ w.room;
-        front = rw together (take-paste run at part m (omega (arith, turn-room, w.room)) inside ∙ rw
+        front = rw together (take-paste run at part m (omega (arith, turn-room, room)) inside ∙ rw
             (w.front, is-stretch));
       }
     where
@@ -181,10 +180,10 @@ module _ {order starts list ends lasts nexts counts events waiting : List ℕ} {
   pub writing-room : at + (get_or counts' q 0 - get_or counts q 0) ≤ 1024
   writing-room = turn-room w.places w.few w.written first u
 
-  pub writing-turn : Writing order starts list ends lasts nexts' counts' events' waiting' ready'
+  pub writing-turn : length run ≡ 1024 → Writing order starts list ends lasts nexts' counts' events' waiting' ready'
       (at + (get_or counts' q 0 - get_or counts q 0))
       (paste run at (drop (get_or starts q 0 + get_or counts q 0) order) (get_or counts' q 0 - get_or counts q 0))
-  writing-turn =
+  writing-turn room =
       record {
         trace = w.trace;
         count = w.count;
@@ -192,15 +191,17 @@ module _ {order starts list ends lasts nexts counts events waiting : List ℕ} {
         places = w.places;
         out = w.out;
         base = w.base;
-        written = written-turn w.places w.few w.written first u;
+        written = written-turn w.places w.few w.written first u room;
       }
 
--- ---- one number more
+-- ---- what is copied
 
-pub copied_next : (run order : List ℕ) (at from i count : ℕ) → i < count → at + count ≤ length run
-    → from + count ≤ length order → {now : List ℕ} → now ≡ paste run at (drop from order) i
-    → set now (at + i) (get_or order (from + i) 0) ≡ paste run at (drop from order) (i + 1)
-copied_next run order at from i count l h k e =
-    let room : i < length (drop from order) = omega (arith, length-drop from order, l, k) in
-    let one = paste-suc run at (drop from order) i 0 (omega (arith, l, h)) room in
-    rw (e, ← get_or-drop from order i 0, add-one i) one
+pub copied : (order run : List ℕ) (first at m : ℕ) {part : List ℕ} → first + m ≤ length order
+    → part ≡ take (first + m - first) (drop first order)
+    → put_mid at (at + m - at) run part ≡ paste run at (drop first order) m
+copied order run first at m {part} h e =
+    let s = drop first order in
+    let same : first + m - first ≡ m = omega arith in
+    let long = length-take-le m s (omega (arith, length-drop first order, h)) in
+    put_mid-paste at (at + m - at) run part (take m s) m (e ∙ ap (λ (z : ℕ). take z s) same) (omega arith) (sym long)
+    ∙ ap (λ (z : List ℕ). take at run ++ z ++ drop (at + m) run) (take_all m (take m s) (omega (arith, long)))

@@ -15,11 +15,13 @@ use Rattle.trace.specs.Trace.{Trace, of_worker, is_sync, is_access}
 use Rattle.model.specs.Computed.{largest_run, largest_run_without, first_outside, row, must_precede_in, pair_order}
 use Rattle.model.specs.Computed.{held_back_run}
 use Rattle.model.specs.Examples.{post, wait, read_cell, write_cell}
-use Rattle.accept.specs.declared.AcceptAnswer.TheVariants.{Accepted, Refused}
+use Rattle.trace.specs.Answer.{Refused}
+use Rattle.accept.specs.Acceptance.{Accepted}
+use Rattle.pair_order.specs.Order.{Ordered}
+use Rattle.races.specs.Races.{Listed}
 use Rattle.accept.specs.Acceptance.{acceptance, accept_answer}
 use Rattle.table_rows.specs.Rows.{rows}
 use Rattle.order_table.specs.Table.{table_reading, table_answer, table_after}
-use Rattle.pair_order.specs.declared.OrderAnswer.TheVariants.{Ordered}
 use Rattle.pair_order.specs.Order.{pair_reading, order_answer}
 use Rattle.two_runs.specs.Runs.{runs_reading, first_after, second_after}
 use Rattle.beginning.specs.Computed.{first_index, beginning_length, prefix_of, beginning_of}
@@ -27,7 +29,6 @@ use Rattle.beginning.specs.Returned.{of_second}
 use Rattle.conflicts.specs.Intervals.{Common, overlap}
 use Rattle.conflicts.specs.Conflict.{in_conflict}
 use Rattle.race_model.specs.RaceList.{is_race, pair, races_of, races_below, race_list}
-use Rattle.races.specs.declared.RacesAnswer.TheVariants.{Listed}
 use Rattle.races.specs.Races.{races_reading, races_answer, races_listed}
 use Rattle.starred.specs.Files.{file_b, file_c, wait_then_post, post_then_wait, file_e}
 

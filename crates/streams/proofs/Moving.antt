@@ -10,29 +10,33 @@ use Rattle.std.specs.Io.KnownBytes.{Consumes, Appends, Keeps, ReadConsumes, Writ
 use Rattle.std.specs.IoError.{error_kind}
 use Rattle.std.specs.declared.io.Error.{Error}
 use Rattle.streams.specs.declared.Step.{Step}
-use Rattle.streams.specs.declared.Step.TheVariants.{Again, Done}
+use Rattle.streams.specs.declared.Step.TheVariants.{Again, Whole, Failed}
 use Rattle.streams.specs.Streams.{is_interruption, step_after, moved_by}
 
 -- ---- how many bytes a step moves
 
-stays : (b : Bool) (count : ℕ) → moved_by (cond b (Again count) (Done count false)) ≡ count
-stays true count = refl
-stays false count = refl
+stays : (b : Bool) (count : ℕ) (error : Option Error) → moved_by (cond b (Again count) (Failed count error)) ≡ count
+stays true count error = refl
+stays false count error = refl
+
+ends : (reading : Bool) (count : ℕ) → moved_by (cond reading (Whole count) (Failed count None)) ≡ count
+ends true count = refl
+ends false count = refl
 
 gained : Result ℕ Error → ℕ
 gained (Ok n) = n
 gained (Err e) = 0
+
+none : (count : ℕ) (xs : List ℕ) → drop count (take count xs) ≡ []
+none count xs = ap (λ n. drop count (take n xs)) (omega arith) ∙ drop-take count 0 xs
 
 -- what a step behind the first `count` moves of a list
 new-part : (got : Result ℕ Error) (reading : Bool) (count : ℕ) (xs : List ℕ)
     → drop count (take (moved_by (step_after got reading count)) xs) ≡ take (gained got) (drop count xs)
 unfolding gained
 new-part (Err e) reading count xs =
-    ap (λ n. drop count (take n xs)) (stays (is_interruption (error_kind e)) count) ∙ none
-  where
-    none : drop count (take count xs) ≡ []
-    none = ap (λ n. drop count (take n xs)) (omega arith) ∙ drop-take count 0 xs
-new-part (Ok zero) reading count xs = ap (λ n. drop count (take n xs)) (omega arith) ∙ drop-take count 0 xs
+    ap (λ n. drop count (take n xs)) (stays (is_interruption (error_kind e)) count (Some e)) ∙ none count xs
+new-part (Ok zero) reading count xs = ap (λ n. drop count (take n xs)) (ends reading count) ∙ none count xs
 new-part (Ok (suc k)) reading count xs = drop-take count (suc k) xs
 
 -- ---- one read or write

@@ -1,15 +1,13 @@
 -- Bytes placed in lent memory, one behind the other. In order: placing is writing from the start on, behind what stands
--- before (crate `lent`); how long the memory is; more behind what is placed; a list, byte by byte; from the start on.
-use mathlib.Core.List.{List, [], ◌∷◌, ◌++◌, append_assoc}
+-- before (crate `lent`); how long the memory is; more behind what is placed; from the start on.
+use mathlib.Core.List.{List, [], ◌++◌, append_assoc}
 use mathlib.Core.Path.{◌≡◌, refl, sym, ◌∙◌}
-use native.Mathlib.Nat.{add-zero}
-use native.Mathlib.Numerals.{add-one}
 use native.Mathlib.Omega.{arith}
-use Prim.Native.Nat.{ℕ, ◌+◌, ◌<◌, ◌≤◌}
-use lib.ListN.{length, get_or, set, take, drop, length-append, take-append-drop}
-use lib.Seq.{drop-drop, length-take-le, take-suc, take_all}
+use Prim.Native.Nat.{ℕ, ◌+◌, ◌≤◌}
+use lib.ListN.{length, take, drop, length-append, take-append-drop}
+use lib.Seq.{drop-drop, length-take-le}
 use Rattle.lent.specs.Written.{written_over}
-use Rattle.lent.proofs.Writing.{Written, written-by, written-part, written_one}
+use Rattle.lent.proofs.Writing.{Written, written-by, written-part}
 use Rattle.text.specs.Placed.{Placed}
 
 -- ---- placing is writing
@@ -60,38 +58,6 @@ module _ {old : List ℕ} {at : ℕ} {a : List ℕ} {mid : ℕ} {then : List ℕ
 pub placed-room-first : {old : List ℕ} {at : ℕ} {a : List ℕ} {mid : ℕ} {then : List ℕ} → Placed old at a mid then
     → (b e : List ℕ) → at + length (a ++ (b ++ e)) ≤ length old → mid + length b ≤ length then
 placed-room-first {mid = mid} {then = then} p b e room = room-first then mid b e (placed-room p (b ++ e) room)
-
--- ---- a list, byte by byte
-
--- the first i bytes of `from` are written behind what stands before the place `at`
-pub record Copied (old : List ℕ) (at : ℕ) (from : List ℕ) (i : ℕ) (now : List ℕ) : Type 0 where
-  pub inside : i ≤ length from
-  pub written : Written (at + i) (take at old ++ take i from) old now
-
-module _ (old : List ℕ) (at : ℕ) (from : List ℕ) (room : at + length from ≤ length old) where
-  pub copied_none : Copied old at from 0 old
-  copied_none =
-      record {
-        inside = omega arith;
-        written = rw (add-zero at) (placed-written old at [] (omega (arith, room)) (placed-none old at));
-      }
-
-  module _ {i : ℕ} {now : List ℕ} (p : Copied old at from i now) where
-    pub copied_more : i < length from → Copied old at from (i + 1) (set now (at + i) (get_or from i 0))
-    copied_more l = record { inside = omega (arith, l); written = rw (more, ← append_assoc, end) next }
-      where
-        more : take (i + 1) from ≡ take i from ++ get_or from i 0 ∷ []
-        more = rw add-one (take-suc from i 0 l)
-
-        end : at + (i + 1) ≡ at + i + 1
-        end = omega arith
-
-        next : Written (at + i + 1) ((take at old ++ take i from) ++ get_or from i 0 ∷ []) old
-            (set now (at + i) (get_or from i 0))
-        next = written_one p.written (omega (arith, l, room, p.written.size)) (get_or from i 0)
-
-    pub copied_all : length from ≤ i → Placed old at from (at + i) now
-    copied_all l = written-placed old at from room (rw (take_all i from l) at p.written)
 
 -- ---- from the start on
 

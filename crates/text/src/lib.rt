@@ -11,12 +11,9 @@ fn put(text: &mut [u8], at: usize, bytes: &[u8]) -> usize
     requires { at + length bytes.now ≤ length text.old }
     ensures { Placed text.old at bytes.now result text.new }
 {
-    let mut i: usize = 0;
-    while i < bytes.len() {
-        text[at + i] = bytes[i];
-        i += 1;
-    }
-    at + i
+    let end = at + bytes.len();
+    text[at..end].copy_from_slice(bytes);
+    end
 }
 
 // Places a number in decimal from `at` on, and answers where it ends.
@@ -25,7 +22,7 @@ fn put_number(text: &mut [u8], at: usize, x: u32) -> usize
     ensures { Placed text.old at (decimal x) result text.new }
 {
     let mut digits = [0u8; 20];
-    let count = io::decimal(x as u64, &mut digits);
+    let count = io::decimal(u64::from(x), &mut digits);
     put(text, at, &digits[..count])
 }
 

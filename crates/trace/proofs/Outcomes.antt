@@ -11,9 +11,13 @@ use lib.Dec.{leb, ltb}
 use borrow.Author.Tests.{leb-true, leb-false, le-leb, lt-leb, ltb-true, ltb-false, lt-ltb, le-ltb}
 use Rattle.basics.specs.Membership.{◌∈◌}
 use Rattle.basics.proofs.Booleans.{zero_one, both-pass, one-fails}
+use Rattle.std.specs.Prelude.{Result, Ok}
+use Rattle.trace.specs.Answer.{counts, counts_of, answer_by}
+use Rattle.trace.specs.declared.Counts.{Counts}
+use Rattle.trace.specs.declared.Refusal.{Refusal}
 use Rattle.trace.specs.Reading.{Reading, refused, reads, then_ask}
 use Rattle.trace.specs.Refusals.{RefusedNext, by_earlier, by_this}
-use Rattle.trace.specs.Trace.{Trace}
+use Rattle.trace.specs.Trace.{Trace, size}
 
 pub refused-reads : {q k : ℕ} {t : Trace} → refused q k ≡ reads t → ⊥
 refused-reads e = zero_one cc
@@ -153,3 +157,26 @@ module _ {X : Type 0} (answer : Reading → X) where
         (rw (only u p) at p, rw (only u p) at i),
     λ p. ap answer ((c.passes t).1 p.0) ∙ p.1,
   )
+
+-- ---- a result that is a refusal, or what is said of the trace
+
+pub tells-refusals : {A : Type 0} (said : Trace → A) → TellsRefusals (answer_by said)
+tells-refusals said = record { apart = λ q k t z. zero_one cc; same = λ q k x y z. same q k x y z }
+  where
+    same : (q k x y : ℕ) → answer_by said (refused x y) ≡ answer_by said (refused q k) → refused x y ≡ refused q k
+    same q k x y z =
+        let e : ◌≡◌ {A = Refusal} (record { number = x; place = y }) (record { number = q; place = k }) = cc in
+        ap (λ (r : Refusal). refused r.number r.place) e
+
+pub refuses-nothing : {A : Type 0} (said : Trace → A) (x : A) (q k : ℕ) → answer_by said (refused q k) ≡ Ok x → ⊥
+refuses-nothing said x q k e = zero_one cc
+
+-- what two like results say
+pub same-result : {A : Type 0} {x y : A} → ◌≡◌ {A = Result A Refusal} (Ok x) (Ok y) → x ≡ y
+same-result e = cc
+
+pub same-counts : (t : Trace) {p n : ℕ} → ◌≡◌ {A = Result Counts Refusal} (Ok (counts_of t)) (Ok (counts p n))
+    → (t.workers ≡ p) × (size t ≡ n)
+same-counts t e =
+    let i = same-result e in
+    (ap (λ (c : Counts). c.workers) i, ap (λ (c : Counts). c.operations) i)

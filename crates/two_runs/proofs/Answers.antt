@@ -13,20 +13,20 @@ use Rattle.trace.specs.Premises.{HoldsTrace}
 use Rattle.trace.specs.Reading.{Reading, refused, trace_of}
 use Rattle.trace.specs.Refusals.{by_earlier, by_this}
 use Rattle.trace.specs.Trace.{Trace, size}
-use Rattle.trace.proofs.Outcomes.{TellsRefusals, outcome-refused, outcome-passes}
+use Rattle.trace.proofs.Outcomes.{tells-refusals, outcome-refused, outcome-passes}
 use Rattle.model.specs.Computed.{must_precede_in}
 use Rattle.model.specs.Orders.{MustPrecedeIn}
 use Rattle.model.proofs.SharedOrder.{must-precede-in-test, order-neither, pair-order-zero}
-use Rattle.accept.specs.declared.AcceptAnswer.TheVariants as accept
+use Rattle.trace.specs.Answer.{Refused}
+use Rattle.pair_order.specs.Order.{Ordered}
+use Rattle.two_runs.specs.Runs.{Runs}
 use Rattle.accept.specs.Acceptance.{AcceptedTrace, accept_answer}
 use Rattle.accept.proofs.Questions.{accepted-workers, accepted-trace, accepted-same}
-use Rattle.pair_order.specs.declared.OrderAnswer.TheVariants as order
 use Rattle.pair_order.specs.Order.{order_answer}
 use Rattle.pair_order.specs.Refusals.{AcceptedPair}
 use Rattle.pair_order.proofs.Answers.{answer-unaccepted, order-refused, order-ordered}
 use Rattle.pair_order.proofs.Orders.{answer-sign}
 use Rattle.pair_order.proofs.Questions.{pair-comes-out}
-use Rattle.two_runs.specs.declared.RunsAnswer.TheVariants.{Runs, Refused}
 use Rattle.two_runs.specs.Premises.{BothWritten}
 use Rattle.two_runs.specs.Refusals.{AcceptedUnordered, AcceptedRuns, RefusedOrdered, RefusedRuns}
 use Rattle.two_runs.specs.Runs.{runs_reading, answer_of, buffer_after, runs_answer, first_after, second_after}
@@ -96,12 +96,12 @@ module _ (bytes : List ℕ) (a b : ℕ) (first second : List ℕ) where
       ordered : RefusedOrdered bytes a b 14 0
       ordered = by_this (trace_of bytes) h (pair-ordered h s) refl refl
 
-  pub call-unpaired : {q k : ℕ} → order_answer bytes a b ≡ order.Refused q k
+  pub call-unpaired : {q k : ℕ} → order_answer bytes a b ≡ Refused q k
       → RunsCall bytes a b first second (Refused q k) first second
   call-unpaired {q} {k} o =
       by-no (by_earlier (by_earlier (((pair-comes-out bytes a b).refuses q k).0 ((order-refused bytes a b q k).0 o))))
 
-  pub call-refused : {q k : ℕ} → accept_answer bytes ≡ accept.Refused q k
+  pub call-refused : {q k : ℕ} → accept_answer bytes ≡ Refused q k
       → RunsCall bytes a b first second (Refused q k) first second
   call-refused i = call-unpaired (sym (answer-unaccepted bytes a b i))
 
@@ -111,10 +111,7 @@ module _ (bytes : List ℕ) (a b : ℕ) (first second : List ℕ) where
       → (runs_answer bytes a b first second ≡ Refused q k)
       ↔ (runs_reading bytes a b (length first) (length second) ≡ refused q k)
   unfolding runs_answer
-  runs-refused q k = outcome-refused answer_of tells (runs_reading bytes a b (length first) (length second)) q k
-    where
-      tells : TellsRefusals answer_of
-      tells = record { apart = λ q k t z. zero_one cc; same = λ q k x y z. cc }
+  runs-refused q k = outcome-refused answer_of (tells-refusals _) (runs_reading bytes a b (length first) (length second)) q k
 
   -- for an accepted file: neither must precede the other, and the buffers are long enough; the count is n
   pub runs-given : {t : Trace} → AcceptedTrace bytes t → (m : ℕ)
@@ -123,22 +120,22 @@ module _ (bytes : List ℕ) (a b : ℕ) (first second : List ℕ) where
   unfolding runs_answer
   runs-given {t} h m =
       Iff.trans
-      (outcome-passes answer_of (λ q k z. zero_one cc) (runs-comes-out bytes a b (length first) (length second))
+      (outcome-passes answer_of (refuses-nothing size _) (runs-comes-out bytes a b (length first) (length second))
       (λ u r. accepted-same r.accepted.pair.numbers.accepted h)) (λ p. (p.0, cc), λ p. (p.0, rw p.1))
 
   -- in other words: the pair order is 0, and the buffers are long enough
   pub runs-when : {t : Trace} → AcceptedTrace bytes t
       → AcceptedRuns bytes a b (length first) (length second) t
-      ↔ ((order_answer bytes a b ≡ order.Ordered (pos 0)) × (size t ≤ length first) × (size t ≤ length second))
+      ↔ ((order_answer bytes a b ≡ Ordered (pos 0)) × (size t ≤ length first) × (size t ≤ length second))
   runs-when {t} h = (
     λ r. (forth r.accepted, r.first_holds, r.second_holds),
     λ p. record { accepted = back p.0; first_holds = p.1; second_holds = p.2 },
   )
     where
-      forth : AcceptedUnordered bytes a b t → order_answer bytes a b ≡ order.Ordered (pos 0)
+      forth : AcceptedUnordered bytes a b t → order_answer bytes a b ≡ Ordered (pos 0)
       forth u = (answer-sign u.pair (pos 0)).1 ((pair-order-zero (accepted-workers h) a b).1 u.unordered)
 
-      back : order_answer bytes a b ≡ order.Ordered (pos 0) → AcceptedUnordered bytes a b t
+      back : order_answer bytes a b ≡ Ordered (pos 0) → AcceptedUnordered bytes a b t
       back o =
           let pair : AcceptedPair bytes a b t = rw (accepted-trace h) at (order-ordered bytes a b (pos 0) o).0 in
           let zero = (answer-sign pair (pos 0)).0 o in

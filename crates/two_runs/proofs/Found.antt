@@ -12,8 +12,7 @@ use Rattle.index.proofs.Lookups.{holds-places}
 use Rattle.accept.specs.Acceptance.{AcceptedTrace}
 use Rattle.accept.proofs.Questions.{accepted-workers, accepted-run}
 use Rattle.lent.specs.Written.{written_over}
-use Rattle.pair_order.specs.Premises.{Readable}
-use Rattle.pair_order.proofs.Answers.{readable-opens, readable-left-out}
+use Rattle.pair_order.proofs.Answers.{Readable, readable-opens, readable-left-out}
 use Rattle.run_writer.specs.Writing.{Runnable, WritesRun}
 use Rattle.two_runs.specs.Premises.{RunFound, BothFound, BothWritten}
 

@@ -15,7 +15,7 @@ use Rattle.events.specs.Events.{is_posted, with_post}
 use Rattle.masks.specs.Masks.{With, Apart}
 use Rattle.masks.proofs.Sets.{in_either}
 use Rattle.index.specs.Steps.{operation_at, ahead, holds, event, reached, Follows}
-use Rattle.index.proofs.Covering.{reached-in, reached-end, between_none}
+use Rattle.index.proofs.Covering.{reached-in, reached-end, between_none, ends-cases}
 use Rattle.states.specs.States.{EndsRun, Blocked, next_of}
 use Rattle.walk.specs.Going.{Stopped, at_end, at_left_out, at_event, Entered, Moved, LowerStopped, LowestStretch}
 use Rattle.walk.specs.Going.{Along, Went}
@@ -228,4 +228,4 @@ module _ {list : List ℕ} {q below from end last : ℕ} (low : q < 16) where
     where
       stopped : (t : Trace) (a : ℕ) → Follows t a list q at end last last
           → Stopped t a events' waiting' q (operation_at t q last)
-      stopped t a go = elim go.ending [ inl e ↦ at_end e | inr e ↦ at_left_out e ]
+      stopped t a go = elim (ends-cases go.ending) [ inl e ↦ at_end e | inr e ↦ at_left_out e ]

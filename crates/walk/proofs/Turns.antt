@@ -39,31 +39,25 @@ sum-most (x ∷ l) f =
     let rest = sum-most l (λ i h. f (suc i) (omega (arith, h))) in
     omega (arith, f 0 (omega arith), rest)
 
-sized-sum : {ends nexts counts events waiting : List ℕ} → Sized ends nexts counts events waiting → sum nexts ≤ 16384
-sized-sum {ends} {nexts} s =
-    let h = sum-most nexts (λ i l. let e = s.each i (omega (arith, s.places)) in omega (arith, e.0, e.1)) in
-    omega (arith, rw s.places at h)
+sized-sum : {ends nexts : List ℕ} → Sized ends nexts → length nexts ≡ 16 → sum nexts ≤ 16384
+sized-sum {ends} {nexts} s places =
+    let h = sum-most nexts (λ i l. let e = s.each i (omega (arith, places)) in omega (arith, e.0, e.1)) in
+    omega (arith, rw places at h)
 
-module _ {list ends nexts counts events waiting events' waiting' : List ℕ} {ready q below at c freed rest : ℕ}
-    (lasts : List ℕ) (s : Sized ends nexts counts events waiting) (first : masks.Lowest ready q)
+module _ {list ends nexts events waiting events' waiting' : List ℕ} {ready q below at c freed rest : ℕ}
+    (lasts counts : List ℕ) (s : Sized ends nexts) (places : length nexts ≡ 16) (counters : length counts ≡ 16)
+    (first : masks.Lowest ready q)
     (w : Without ready q rest)
     (g : Went list q below (get_or nexts q 0) (get_or ends q 0) (get_or lasts q 0) events waiting events' waiting' at c freed)
   where
     next-own : get_or (set nexts q at) q 0 ≡ at
-    next-own = get_or-set_same nexts q at 0 (omega (arith, s.places, first.few))
+    next-own = get_or-set_same nexts q at 0 (omega (arith, places, first.few))
 
     count-own : get_or (set counts q c) q 0 ≡ c
-    count-own = get_or-set_same counts q c 0 (omega (arith, s.counters, first.few))
+    count-own = get_or-set_same counts q c 0 (omega (arith, counters, first.few))
 
-    turned-sized : Sized ends (set nexts q at) (set counts q c) events' waiting'
-    turned-sized =
-        record {
-          places = length-set nexts q at ∙ s.places;
-          counters = length-set counts q c ∙ s.counters;
-          words = g.along.released.words;
-          room = g.along.released.room;
-          each = λ r l. each r l (equal? r q);
-        }
+    turned-sized : Sized ends (set nexts q at)
+    turned-sized = record { each = λ r l. each r l (equal? r q) }
       where
         each : (r : ℕ) → r < 16 → (r ≡ q) ⊎ (r ≢ q)
             → (get_or (set nexts q at) r 0 ≤ get_or ends r 0) × (get_or ends r 0 ≤ 1024)
@@ -77,14 +71,14 @@ module _ {list ends nexts counts events waiting events' waiting' : List ℕ} {re
     turned-falls few = go (equal? at (get_or nexts q 0))
       where
         more : sum (set nexts q at) + get_or nexts q 0 ≡ sum nexts + at
-        more = sum-set nexts q at (omega (arith, s.places, first.few))
+        more = sum-set nexts q at (omega (arith, places, first.few))
 
         go : (at ≡ get_or nexts q 0) ⊎ (at ≢ get_or nexts q 0)
             → (16384 - sum (set nexts q at)) * 65536 + bit_or rest freed < (16384 - sum nexts) * 65536 + ready
         go (inl e) =
             let same : bit_or rest freed ≡ rest = rw (g.along.none e) (or_zero_r rest) in
             omega (arith, more, e, same, w.less)
-        go (inr n) = omega (arith, more, n, few, g.along.from_on, sized-sum turned-sized)
+        go (inr n) = omega (arith, more, n, few, g.along.from_on, sized-sum turned-sized (length-set nexts q at ∙ places))
 
     -- ---- the state
 
@@ -169,7 +163,7 @@ module _ {list ends nexts counts events waiting events' waiting' : List ℕ} {re
 -- ---- one turn behind the other
 
 pub walked_start : {list ends lasts nexts counts events waiting : List ℕ} {ready : ℕ}
-    → Sized ends nexts counts events waiting
+    → Sized ends nexts
     → Walked list ends lasts nexts counts events waiting ready nexts counts events waiting ready
 walked_start s = record { sized = s; going = λ t a out r x. ([], rw append-nil x) }
 

@@ -101,12 +101,8 @@ pub record Went (list : List ℕ) (q below from end last : ℕ) (events waiting 
 
 -- ---- turn by turn
 
--- what the code needs to be safe
-pub record Sized (ends nexts counts events waiting : List ℕ) : Type 0 where
-  pub places : length nexts ≡ 16
-  pub counters : length counts ≡ 16
-  pub words : length events ≡ 4
-  pub room : length waiting ≡ 256
+-- what the code needs to be safe: each worker is inside its list, which is inside the array
+pub record Sized (ends nexts : List ℕ) : Type 0 where
   pub each : (q : ℕ) → q < 16 → (get_or nexts q 0 ≤ get_or ends q 0) × (get_or ends q 0 ≤ 1024)
 
 abbrev pub sum : List ℕ → ℕ
@@ -120,7 +116,7 @@ left nexts ready = (16384 - sum nexts) * 65536 + ready
 -- worker q's turn, in which it lets the workers below it go first if `orderly`
 pub record Turned (list ends lasts : List ℕ) (orderly : Bool) (q : ℕ) (nexts counts events waiting : List ℕ) (ready : ℕ)
     (nexts' counts' events' waiting' : List ℕ) (ready' : ℕ) : Type 0 where
-  pub sized : Sized ends nexts' counts' events' waiting'
+  pub sized : Sized ends nexts'
   pub falls : left nexts' ready' < left nexts ready
   pub others : (p : ℕ) → p ≢ q → get_or counts' p 0 ≡ get_or counts p 0
   pub going : (t : Trace) (a out : ℕ) (r : List ℕ)
@@ -134,7 +130,7 @@ pub record Turned (list ends lasts : List ℕ) (orderly : Bool) (q : ℕ) (nexts
 -- turns, one behind the other; where nobody is ready at the end, the walk is exhausted (`going-exhausted`)
 pub record Walked (list ends lasts nexts counts events waiting : List ℕ) (ready : ℕ)
     (nexts' counts' events' waiting' : List ℕ) (ready' : ℕ) : Type 0 where
-  pub sized : Sized ends nexts' counts' events' waiting'
+  pub sized : Sized ends nexts'
   pub going : (t : Trace) (a out : ℕ) (r : List ℕ)
       → Going t a out r list ends lasts nexts counts events waiting ready
       → (s : List ℕ) × Going t a out (r ++ s) list ends lasts nexts' counts' events' waiting' ready'

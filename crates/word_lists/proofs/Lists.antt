@@ -5,7 +5,7 @@ use mathlib.Core.Logic.{inl, inr}
 use mathlib.Core.Path.{◌≡◌, refl, sym, ap, ◌∙◌}
 use native.Mathlib.Nat.{add_assoc, add-suc, add-zero}
 use native.Mathlib.Omega.{arith}
-use Prim.Native.Nat.{ℕ, suc, ◌+◌, ◌/◌, ◌%◌, ◌^◌, ◌<◌, ◌≤◌}
+use Prim.Native.Nat.{ℕ, zero, suc, ◌+◌, ◌*◌, ◌/◌, ◌%◌, ◌^◌, ◌<◌, ◌≤◌}
 use lib.ListN.{length, get_or, set, take, length-set, length-append, length-map}
 use lib.Seq.{take-length, take-suc, take-suc-set, take-set-le}
 use Rattle.basics.proofs.Booleans.{less?}
@@ -14,32 +14,28 @@ use Rattle.words.specs.Words.{is_in, raised}
 use Rattle.words.proofs.Passing.{passing-none, passing-few, passing-agree, passing-raised}
 use lib.Pow.{shr-shr}
 use Rattle.words.proofs.Sets.{cut_in, none_in}
+use Rattle.std.specs.Int.{w32, to_le_bytes}
 use Rattle.word_lists.specs.Lists.{Room, ByteRoom, Listed}
 
 -- ---- a byte, number by number
 
 -- the first j numbers of x stand from place `at` on; all of them, where it has no more
 pub record ByteBelow (x first at : ℕ) (row₀ : List ℕ) (j : ℕ) (row : List ℕ) : Type 0 where
-  pub room : ByteRoom x first at row₀
   pub long : length row ≡ 1024
-  pub below : j ≤ 8
   pub front : (c : ℕ) → c ≤ j → c ≤ length (passing (is_in x) 8)
       → take (at + c) row ≡ take at row₀ ++ raised first (take c (passing (is_in x) 8))
 
-pub byte-start : {x first at : ℕ} {row : List ℕ} → ByteRoom x first at row → ByteBelow x first at row 0 row
-byte-start {at = at} {row} r =
+pub byte-start : (x first at : ℕ) (row : List ℕ) → length row ≡ 1024 → ByteBelow x first at row 0 row
+byte-start x first at row long =
     record {
-      room = r;
-      long = r.long;
-      below = omega arith;
+      long = long;
       front = λ c l m. let e : c ≡ 0 = omega arith in rw (e, add-zero) (sym (append-nil (take at row)));
     }
 
 module _ {x first at : ℕ} {row₀ : List ℕ} {j : ℕ} {row : List ℕ} (b : ByteBelow x first at row₀ j row) where
-  pub byte_more : {number : ℕ} → j < 8 → number ≡ get_or (passing (is_in x) 8) j 0
+  pub byte_more : {number : ℕ} → at + j < 1024 → number ≡ get_or (passing (is_in x) 8) j 0
       → ByteBelow x first at row₀ (j + 1) (set row (at + j) (first + number))
-  byte_more {number} l e =
-      record { room = b.room; long = simp length-set b.long; below = omega arith; front = front }
+  byte_more {number} inside e = record { long = simp length-set b.long; front = front }
     where
       numbers : List ℕ
       numbers = passing (is_in x) 8
@@ -50,7 +46,7 @@ module _ {x first at : ℕ} {row₀ : List ℕ} {j : ℕ} {row : List ℕ} (b : 
         | inl i ↦
             let f : c ≡ suc j = omega arith in
             rw (f, add-suc, take-suc numbers j 0 (omega arith), map-append, ← e, ← append_assoc)
-            (take-suc-set row (at + j) (first + number) (omega (arith, b.room.inside, b.long))
+            (take-suc-set row (at + j) (first + number) (omega (arith, b.long))
             ∙ ap (λ (r : List ℕ). r ++ (first + number) ∷ []) (b.front j (omega arith) (omega arith)))
         | inr i ↦ take-set-le (at + c) row (at + j) (first + number) (omega arith) ∙ b.front c i k
       ]
@@ -77,12 +73,17 @@ raised-twice first i [] = refl
 raised-twice first i (k ∷ l) =
     rw (raised-twice first i l) (ap (λ (m : ℕ). m ∷ raised (first + i) l) (sym (add_assoc first i k)))
 
--- the numbers of x below i are listed, where i is a number of bytes' bits
-pub record ListedBelow (x first at : ℕ) (row₀ : List ℕ) (i end : ℕ) (row : List ℕ) : Type 0 where
+-- the numbers of the first k bytes of x are listed
+pub record ListedBelow (x first at : ℕ) (row₀ : List ℕ) (k end : ℕ) (row : List ℕ) : Type 0 where
   pub room : Room first at row₀
-  pub bytes : i % 8 ≡ 0
-  pub below : i ≤ 32
-  pub listed : Listed x i first at row₀ row end
+  pub listed : Listed x (8 * k) first at row₀ row end
+
+pub word-byte : (x k : ℕ) → k < 4 → get_or (to_le_bytes w32 x) k 0 ≡ x / 2 ^ (8 * k) % 256
+word-byte x zero l = omega arith
+word-byte x (suc zero) l = omega arith
+word-byte x (suc (suc zero)) l = omega arith
+word-byte x (suc (suc (suc zero))) l = omega arith
+word-byte x (suc (suc (suc (suc k)))) l = absurd (omega arith)
 
 -- of the empty set there is nothing to list
 pub list-none : {x first at : ℕ} {row : List ℕ} → Room first at row → x < 1 → Listed x 32 first at row row at
@@ -100,8 +101,6 @@ unfolding passing
 list-start x {at = at} {row} r =
     record {
       room = r;
-      bytes = omega arith;
-      below = omega arith;
       listed = record {
         long = r.long;
         counted = omega arith;
@@ -109,38 +108,36 @@ list-start x {at = at} {row} r =
       };
     }
 
-module _ {x first at : ℕ} {row₀ : List ℕ} {i end : ℕ} {row : List ℕ} (r : ListedBelow x first at row₀ i end row) where
-  pub list_room : {byte wide : ℕ} → i < 32 → wide ≡ i → byte ≡ x / 2 ^ i % 256 → ByteRoom byte (first + wide) end row
-  list_room l same e =
+module _ {x first at : ℕ} {row₀ : List ℕ} {k end : ℕ} {row : List ℕ} (r : ListedBelow x first at row₀ k end row) where
+  pub list_room : k < 4 → ByteRoom (first + 8 * k) end
+  list_room l =
       record {
-        byte = omega (arith, e);
-        few = omega (arith, same, r.bytes, r.room.few);
-        inside = omega (arith, r.bytes, r.room.few, r.room.ahead, r.listed.counted, passing-few (is_in x) i);
-        long = r.listed.long;
+        few = omega (arith, r.room.few);
+        inside = omega (arith, r.room.few, r.room.ahead, r.listed.counted, passing-few (is_in x) (8 * k));
       }
 
-  -- the numbers of x from i on are those of the next byte
-  byte-numbers : passing (is_in x) (i + 8) ≡ passing (is_in x) i ++ raised i (passing (is_in (x / 2 ^ i % 256)) 8)
-  byte-numbers =
-      passing-raised (is_in x) i 8
-      ∙ ap (λ (l : List ℕ). passing (is_in x) i ++ raised i l)
-      (passing-agree (λ k. is_in x (i + k)) (is_in (x / 2 ^ i % 256)) 8
-      (λ k l. sym (cut_in (x / 2 ^ i) 8 k l ∙ shifted-in x i k)))
+  module _ {byte : ℕ} (e : byte ≡ x / 2 ^ (8 * k) % 256) where
+    -- the numbers of the first k + 1 bytes are those of the first k, and those of the next byte
+    byte-numbers : passing (is_in x) (8 * (k + 1)) ≡ passing (is_in x) (8 * k) ++ raised (8 * k) (passing (is_in byte) 8)
+    byte-numbers =
+        let more : 8 * (k + 1) ≡ 8 * k + 8 = omega arith in
+        rw (more, e)
+        (passing-raised (is_in x) (8 * k) 8
+        ∙ ap (λ (l : List ℕ). passing (is_in x) (8 * k) ++ raised (8 * k) l)
+        (passing-agree (λ i. is_in x (8 * k + i)) (is_in (x / 2 ^ (8 * k) % 256)) 8
+        (λ i l. sym (cut_in (x / 2 ^ (8 * k)) 8 i l ∙ shifted-in x (8 * k) i))))
 
-  pub list-more : {byte wide end' : ℕ} {row' : List ℕ} → i < 32 → wide ≡ i → byte ≡ x / 2 ^ i % 256
-      → Listed byte 8 (first + wide) end row row' end' → ListedBelow x first at row₀ (i + 8) end' row'
-  list-more {byte} {wide} {end'} {row'} l same e b =
-      record {
-        room = r.room;
-        bytes = omega (arith, r.bytes);
-        below = omega (arith, r.bytes);
-        listed = record {
-          long = b.long;
-          counted = rw (byte-numbers, length-append, length-map, ← e) (omega (arith, b.counted, r.listed.counted));
-          front = rw (byte-numbers, map-append, raised-twice first i, ← append_assoc, ← r.listed.front, ← e)
-              (rw same at b.front);
-        };
-      }
+    pub list-more : {end' : ℕ} {row' : List ℕ} → Listed byte 8 (first + 8 * k) end row row' end'
+        → ListedBelow x first at row₀ (k + 1) end' row'
+    list-more {end'} {row'} b =
+        record {
+          room = r.room;
+          listed = record {
+            long = b.long;
+            counted = rw (byte-numbers, length-append, length-map) (omega (arith, b.counted, r.listed.counted));
+            front = rw (byte-numbers, map-append, raised-twice first (8 * k), ← append_assoc, ← r.listed.front) b.front;
+          };
+        }
 
-  pub list-end : 32 ≤ i → Listed x 32 first at row₀ row end
-  list-end l = let e : i ≡ 32 = omega (arith, r.below) in rw e at r.listed
+  pub list-end : 4 ≤ k → k ≤ 4 → Listed x 32 first at row₀ row end
+  list-end l m = let e : k ≡ 4 = omega arith in rw e at r.listed

@@ -1,6 +1,6 @@
 -- The numbers of a set, listed in an array.
 -- Follows: nothing in the documents. A means.
-use Rattle.std.specs.Prelude.{List, ◌++◌, ◌≡◌, ℕ, ◌+◌, ◌<◌, ◌≤◌, length, take}
+use Rattle.std.specs.Prelude.{List, ◌++◌, ◌≡◌, ℕ, ◌+◌, ◌≤◌, length, take}
 use Rattle.words.specs.Passing.{passing}
 use Rattle.words.specs.Words.{is_in, raised}
 
@@ -11,11 +11,9 @@ pub record Room (first at : ℕ) (row : List ℕ) : Type 0 where
   pub long : length row ≡ 1024
 
 -- room for eight numbers from place `at` on
-pub record ByteRoom (x first at : ℕ) (row : List ℕ) : Type 0 where
-  pub byte : x < 256
+pub record ByteRoom (first at : ℕ) : Type 0 where
   pub few : first + 8 ≤ 1024
   pub inside : at + 8 ≤ 1024
-  pub long : length row ≡ 1024
 
 -- the numbers of x that are below `bits`, raised by `first`, stand from place `at` on in row', and behind them is place
 -- `end`

@@ -47,33 +47,30 @@ const SIZES: &[u8; 256] = b"0112122312232334122323342334344512232334233434452334
     2334344534454556344545564556566734454556455656674556566756676778";
 
 // Number j of the set that byte x is, and 0 where it has no more than j: eight digits for each byte.
-fn member(x: usize, j: usize) -> u8
-    requires { (x < 256) × (j < 8) }
+fn member(x: u8, j: usize) -> u8
+    requires { j < 8 }
     ensures { result ≡ get_or (passing (is_in x) 8) j 0 }
 {
-    MEMBERS[8 * x + j] - 48
+    MEMBERS[8 * usize::from(x) + j] - 48
 }
 
 // How many numbers are in the set that byte x is?
-fn size(x: usize) -> u8
-    requires { x < 256 }
+fn size(x: u8) -> u8
     ensures { result ≡ length (passing (is_in x) 8) }
 {
-    SIZES[x] - 48
+    SIZES[usize::from(x)] - 48
 }
 
 // Writes the numbers of the set that byte x is, each raised by `first`, from place `at` on, and answers the place behind
 // the last. Eight places are written, in one step: what stands behind the numbers is of no use.
-fn list_byte(x: usize, first: usize, at: usize, row: &mut [u16; 1024]) -> usize
-    requires { ByteRoom x first at row.old }
+fn list_byte(x: u8, first: usize, at: usize, row: &mut [u16; 1024]) -> usize
+    requires { ByteRoom first at }
     ensures { Listed x 8 first at row.old row.new result }
 {
-    let mut j: usize = 0;
-    while j < 8 {
-        row[at + j] = (first + basics::byte_index(member(x, j))) as u16;
-        j += 1;
+    for j in 0..8 {
+        row[at + j] = (first + usize::from(member(x, j))) as u16;
     }
-    at + basics::byte_index(size(x))
+    at + usize::from(size(x))
 }
 
 // Writes the numbers of the set, each raised by `first`, from place `at` on, and answers the place behind the last.
@@ -84,12 +81,10 @@ pub fn list(x: u32, first: usize, at: usize, row: &mut [u16; 1024]) -> usize
     if x < 1 {
         return at;
     }
+    let bytes = x.to_le_bytes();
     let mut end = at;
-    let mut i: u32 = 0;
-    while i < 32 {
-        let byte = basics::wide_index((x >> i) % 256);
-        end = list_byte(byte, first + basics::wide_index(i), end, row);
-        i += 8;
+    for k in 0..4 {
+        end = list_byte(bytes[k], first + 8 * k, end, row);
     }
     end
 }

@@ -1,4 +1,3 @@
--- Passing: the numbers that pass a test. Sets: the sets that the functions make. Lists: a set listed.
+-- Passing: the numbers that pass a test. Sets: the sets that the functions make.
 pub mod Passing
 pub mod Sets
-pub mod Lists

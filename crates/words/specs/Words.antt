@@ -1,6 +1,6 @@
 -- Sets of the numbers below 32, as words: i is in the set where bit i is 1.
 -- Follows: nothing in the documents. A means.
-use Rattle.std.specs.Prelude.{Bool, cond, not, ◌&&◌, ◌||◌, List, [], ◌∷◌, ◌++◌, map, ◌≡◌, refl, ℕ, zero, suc, ◌+◌, ◌/◌, ◌%◌, ◌^◌, ◌<◌, ◌≤◌, eqb, ltb, length, take}
+use Rattle.std.specs.Prelude.{Bool, cond, not, ◌&&◌, ◌||◌, List, [], ◌∷◌, map, ◌≡◌, refl, ℕ, zero, suc, ◌+◌, ◌/◌, ◌%◌, ◌^◌, ◌<◌, eqb, ltb}
 use Rattle.words.specs.Passing.{passing}
 
 -- is i in the set x?
@@ -34,18 +34,6 @@ pub record Above (i r : ℕ) : Type 0 where
 -- the numbers of a list, each raised by `first`
 abbrev pub raised : ℕ → List ℕ → List ℕ
 raised first l = map (λ i. first + i) l
-
--- room for a word's numbers from place `at` on, in an array that holds no more than is below `first`
-pub record Room (first at : ℕ) (row : List ℕ) : Type 0 where
-  pub ahead : at ≤ first
-  pub few : first + 32 ≤ 1024
-  pub long : length row ≡ 1024
-
--- the numbers of x, raised by `first`, stand from place `at` on in row', and behind them is place `end`
-pub record Listed (x first at : ℕ) (row row' : List ℕ) (end : ℕ) : Type 0 where
-  pub long : length row' ≡ 1024
-  pub counted : end ≡ at + length (passing (is_in x) 32)
-  pub front : take end row' ≡ take at row ++ raised first (passing (is_in x) 32)
 
 -- ---- a set and a test
 

@@ -3,7 +3,7 @@
 
 ghost use Rattle.std.specs.Prelude.{◌<◌, ◌≡◌, length};
 ghost use Rattle.words.specs.Passing.{passing};
-ghost use Rattle.words.specs.Words.{is_in, With, Without, Common, Joined, Above, Room, Listed};
+ghost use Rattle.words.specs.Words.{is_in, With, Without, Common, Joined, Above};
 
 // The set with i.
 pub fn with(x: u32, i: u32) -> u32
@@ -47,25 +47,7 @@ pub fn above(i: u32) -> u32
 pub fn count(x: u32) -> u32
     ensures { result ≡ length (passing (is_in x) 32) }
 {
-    u32::count_ones(x)
-}
-
-// Writes the numbers of the set, each raised by `first`, from place `at` on, and answers the place behind the last.
-pub fn list(x: u32, first: usize, at: usize, row: &mut [u16; 1024]) -> usize
-    requires { Room first at row.old }
-    ensures { Listed x first at row.old row.new result }
-{
-    if x < 1 {
-        return at;
-    }
-    let mut end = at;
-    let mut i: u32 = 0;
-    while i < 32 {
-        row[end] = (first + basics::wide_index(i)) as u16;
-        end += basics::wide_index((x >> i) % 2);
-        i += 1;
-    }
-    end
+    x.count_ones()
 }
 
 // Is i in the set?

@@ -2,43 +2,42 @@
 -- Assumes nothing.
 use mathlib.Core.Path.{sym, ◌∙◌}
 use native.Mathlib.Omega.{arith}
-use Prim.Native.Nat.{◌-◌}
 use Rattle.beginning.proofs.Lengths.{searched-all, searched-other, searched-past, searched-more}
 use Rattle.beginning.proofs.Lengths.{searched-found, searched-without}
 use Rattle.beginning.proofs.beginning_length.Goals as goal
 
-pub skip-i-requires : goal.skip-i-requires
-skip-i-requires c = record { x_later = omega arith; y_later = omega arith }
+pub skip-rest-requires : goal.skip-rest-requires
+skip-rest-requires c = record { x_later = omega arith; y_later = omega arith }
 
 pub loop-i-init : goal.loop-i-init
-loop-i-init c = c.skip-i.ensures
+loop-i-init c = c.skip-rest.ensures
 
-pub returns-then-x-other : goal.returns-then-x-other
-returns-then-x-other c =
-    searched-other c.loop-i.invariant c.loop-i-test.true (sym c.wide-x.ensures.0 ∙ c.if-x-other.true)
+pub returns-then-x-other-clause-length : goal.returns-then-x-other-clause-length
+returns-then-x-other-clause-length c =
+    searched-other c.loop-i.invariant c.loop-i-test.true (sym c.from-x.ensures ∙ c.if-x-other.true)
 
 pub first_index-o-requires : goal.first_index-o-requires
 first_index-o-requires c =
-    let seen = c.wide-x.ensures.0 in
+    let seen = c.from-x.ensures in
     searched-past c.loop-i.invariant c.loop-i-test.true (λ e. c.if-x-other.false (seen ∙ e))
 
-pub returns-then-o-list : goal.returns-then-o-list
-returns-then-o-list c =
-    let seen = c.wide-x.ensures.0 in
+pub returns-then-o-list-clause-length : goal.returns-then-o-list-clause-length
+returns-then-o-list-clause-length c =
+    let seen = c.from-x.ensures in
     searched-found c.loop-i.invariant c.loop-i-test.true (λ e. c.if-x-other.false (seen ∙ e))
     (sym seen ∙ c.if-x-chosen.true) c.first_index-o.ensures c.if-o-list.true
 
-pub returns-then-x-chosen : goal.returns-then-x-chosen
-returns-then-x-chosen c =
-    let seen = c.wide-x.ensures.0 in
+pub returns-then-x-chosen-clause-length : goal.returns-then-x-chosen-clause-length
+returns-then-x-chosen-clause-length c =
+    let seen = c.from-x.ensures in
     searched-without c.loop-i.invariant c.loop-i-test.true (λ e. c.if-x-other.false (seen ∙ e))
     (sym seen ∙ c.if-x-chosen.true) c.first_index-o.ensures c.if-o-list.false
 
 pub loop-i-preserved : goal.loop-i-preserved
 loop-i-preserved c =
-    let seen = c.wide-x.ensures.0 in
+    let seen = c.from-x.ensures in
     let s = c.loop-i.invariant in
     searched-more s c.loop-i-test.true (λ e. c.if-x-other.false (seen ∙ e)) (λ e. c.if-x-chosen.false (seen ∙ e))
 
-pub returns : goal.returns
-returns c = searched-all c.loop-i.invariant c.loop-i-test.false
+pub returns-clause-length : goal.returns-clause-length
+returns-clause-length c = searched-all c.loop-i.invariant c.loop-i-test.false

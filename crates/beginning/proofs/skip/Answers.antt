@@ -1,7 +1,6 @@
 -- `skip` meets its contract: neither number appears before `at`.
 -- Assumes nothing.
 use native.Mathlib.Omega.{arith}
-use Prim.Native.Nat.{◌-◌}
 use Rattle.beginning.proofs.Indices.{index-fits}
 use Rattle.beginning.proofs.skip.Goals as goal
 

@@ -4,4 +4,4 @@ use Rattle.c_results.specs.Results.{accept_result}
 use Rattle.capi.proofs.mersohki_accept.Goals as goal
 
 pub returns : goal.returns
-returns c = c.result_of.ensures ∙ ap accept_result c.accept.ensures
+returns c = c.from.ensures ∙ ap accept_result c.accept.ensures

@@ -4,4 +4,4 @@ use Rattle.c_results.specs.Results.{beginning_result}
 use Rattle.capi.proofs.mersohki_beginning.Goals as goal
 
 pub returns : goal.returns
-returns c = c.result_of.ensures ∙ ap beginning_result c.which_prefix.ensures
+returns c = c.from.ensures ∙ ap beginning_result c.which_prefix.ensures

@@ -8,7 +8,7 @@ pub returns : goal.returns
 returns c =
     let call = c.canonical.ensures in
     record {
-      returns = c.result_of.ensures ∙ ap canonical_result call.answers;
+      returns = c.from.ensures ∙ ap canonical_result call.answers;
       leaves = call.leaves;
       byte_elements = call.byte_elements;
     }

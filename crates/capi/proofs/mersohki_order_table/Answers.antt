@@ -7,4 +7,4 @@ use Rattle.capi.proofs.mersohki_order_table.Goals as goal
 pub returns : goal.returns
 returns c =
     let call = c.order_table.ensures in
-    record { returns = c.result_of.ensures ∙ ap table_result call.answers; leaves = call.leaves }
+    record { returns = c.from.ensures ∙ ap table_result call.answers; leaves = call.leaves }

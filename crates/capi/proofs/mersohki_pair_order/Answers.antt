@@ -4,4 +4,4 @@ use Rattle.c_results.specs.Results.{order_result}
 use Rattle.capi.proofs.mersohki_pair_order.Goals as goal
 
 pub returns : goal.returns
-returns c = c.result_of.ensures ∙ ap order_result c.pair_order.ensures
+returns c = c.from.ensures ∙ ap order_result c.pair_order.ensures

@@ -8,7 +8,7 @@ pub returns : goal.returns
 returns c =
     let call = c.races.ensures in
     record {
-      returns = c.result_of.ensures ∙ ap races_result call.answers;
+      returns = c.from.ensures ∙ ap races_result call.answers;
       leaves_table = call.leaves_table;
       leaves_lower = call.leaves_lower;
       leaves_higher = call.leaves_higher;

@@ -8,7 +8,7 @@ pub returns : goal.returns
 returns c =
     let call = c.two_runs.ensures in
     record {
-      returns = c.result_of.ensures ∙ ap runs_result call.answers;
+      returns = c.from.ensures ∙ ap runs_result call.answers;
       leaves_first = call.leaves_first;
       leaves_second = call.leaves_second;
     }

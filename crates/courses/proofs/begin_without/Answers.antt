@@ -1,33 +1,36 @@
 -- `begin_without` meets its contract. Assumes nothing.
-use mathlib.Core.Path.{refl}
+use mathlib.Core.Path.{◌≡◌, refl}
 use native.Mathlib.Omega.{arith}
+use lib.ListN.{length}
+use borrow.Author.Rules.{rules}
 use Rattle.courses.proofs.begin_without.Goals as goal
 
 pub begin-requires : goal.begin-requires
-begin-requires c =
-    let (low, o, places, counts) = c.requires in
-    (λ r l. (o.each r l).2, places, counts)
+begin-requires c = λ r l. (c.requires.1.each r l).2
 
 pub entry_from-requires : goal.entry_from-requires
 entry_from-requires c =
-    let (low, o, places, counts) = c.requires in
-    let from = c.index-from.ensures.0 in
-    let end = c.index-end.ensures.0 in
+    let (low, o) = c.requires in
+    let from = c.from-from.ensures in
+    let end = c.from-end.ensures in
     (omega (arith, from, end, (o.each _ low).0), omega (arith, end, (o.each _ low).1))
 
 pub returns : goal.returns
 returns c =
-    let (low, o, places, counts) = c.requires in
-    let from = c.index-from.ensures.0 in
-    let end = c.index-end.ensures.0 in
-    let prior = c.wide.ensures.0 in
-    record {
-      low = low;
-      opens = o;
-      whole = _;
-      begun = c.begin.ensures;
-      at = c.entry_from.result;
-      entry = rw (from, end, prior) at c.entry_from.ensures;
-      ends_cut = refl;
-      counts_cut = refl;
-    }
+    let (low, o) = c.requires in
+    let (begun, ends, none) = c.begin.ensures in
+    let entry = rw (c.from-from.ensures, c.from-end.ensures, c.from.ensures) at c.entry_from.ensures in
+    let room : length c.args.index.now.ends ≡ 16 = search rules in (
+      record {
+        low = low;
+        opens = o;
+        room = room;
+        whole = _;
+        begun = begun;
+        at = _;
+        entry = entry;
+        ends_cut = rw ends refl;
+        counts_cut = refl;
+      },
+      none,
+    )

@@ -1,6 +1,6 @@
 -- `entry_from` meets its contract. The invariant: the entries before s are passed. Assumes nothing.
+use mathlib.Core.Path.{◌≡◌}
 use native.Mathlib.Omega.{arith}
-use Prim.Native.Nat.{◌-◌}
 use Rattle.courses.proofs.Filling.{passed_start, passed-next, passed_entry}
 use Rattle.courses.proofs.entry_from.Goals as goal
 
@@ -21,4 +21,6 @@ loop-s-preserved c =
     (omega (arith, c.if-prior-count_before.false, c.count_before.ensures.0))
 
 pub returns : goal.returns
-returns c = passed_entry c.loop-s.invariant (λ l. absurd (omega (arith, l, c.loop-s-test.false)))
+returns c =
+    let e : c.loop-s.s ≡ c.args.end = omega (arith, c.loop-s.invariant.up_to_end, c.loop-s-test.false) in
+    passed_entry (rw e at c.loop-s.invariant) (λ l. absurd (omega (arith, l)))

@@ -1,16 +1,13 @@
 -- `count_prior` meets its contract. Assumes nothing.
 use mathlib.Core.Path.{sym}
-use Rattle.trace.specs.Reading.{trace_of}
-use Rattle.pair_order.proofs.Answers.{operations-places, worker-low}
+use Rattle.pair_order.proofs.Answers.{readable, readable-operations, operations-places, worker-low}
 use Rattle.pair_order.proofs.count_prior.Goals as goal
 
 pub count_prior-requires : goal.count_prior-requires
 count_prior-requires c =
-    let (x, l) = c.requires in
-    worker-low x l c.worker_of.ensures
+    worker-low (readable-operations (readable c.args.x.now)) c.requires c.worker.ensures.0
 
 pub returns : goal.returns
 returns c =
-    let (x, l) = c.requires in
-    c.count_prior.ensures (trace_of c.args.file.now) _ (operations-places x) l
-    (sym c.worker_of.ensures)
+    let places = operations-places (readable-operations (readable c.args.x.now)) in
+    c.count_prior.ensures _ _ places c.requires (sym c.worker.ensures.0)

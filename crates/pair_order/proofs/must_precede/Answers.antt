@@ -1,17 +1,17 @@
 -- `must_precede` meets its contract. Assumes nothing.
-use Rattle.trace.specs.Reading.{trace_of}
-use Rattle.pair_order.proofs.Answers.{walked-past, operations-places, worker-known, worker-low}
+use Rattle.pair_order.proofs.Answers.{walked-past, readable, readable-operations, operations-places, worker-known}
+use Rattle.pair_order.proofs.Answers.{worker-low}
 use Rattle.pair_order.proofs.must_precede.Goals as goal
 
 pub next_operation-next-requires : goal.next_operation-next-requires
 next_operation-next-requires c =
-    let (x, y, l, d) = c.requires in
-    worker-low x l c.worker_of-q.ensures
+    let (y, l, d) = c.requires in
+    worker-low (readable-operations (readable c.args.x.now)) l c.worker-q.ensures.0
 
 pub returns : goal.returns
 returns c =
-    let (x, y, l, d) = c.requires in
-    let t = trace_of c.args.file.now in
-    let own = c.worker_of-q.ensures in
-    let next = c.next_operation-next.ensures t (operations-places x) (worker-known x l own) in
+    let (y, l, d) = c.requires in
+    let x = readable-operations (readable c.args.x.now) in
+    let own = c.worker-q.ensures.0 in
+    let next = c.next_operation-next.ensures _ (operations-places x) (worker-known x l own) in
     walked-past x.holds y _ l d (rw own at next)

@@ -1,40 +1,25 @@
 -- `lowest_left` meets its contract. The invariant: the lowest of the workers below q. Assumes nothing.
-use mathlib.Core.Path.{◌≡◌, sym, ◌∙◌}
+use mathlib.Core.Path.{sym, ◌∙◌}
 use native.Mathlib.Omega.{arith}
-use Prim.Native.Nat.{◌-◌, ◌<◌}
+use Prim.Native.Nat.{◌<◌}
 use Rattle.places.proofs.Lookups.{lowest-none, lowest-new, lowest-old}
 use Rattle.places.proofs.lowest_left.Goals as goal
+use Rattle.places.proofs.lowest_left.Goals.{then-k-least, else-k-least}
 
 pub loop-q-init : goal.loop-q-init
-loop-q-init c = (omega arith, λ t x e. sym (lowest-none t c.args.done.now ∙ x.count))
+loop-q-init c = λ t x e. sym (lowest-none t c.args.done.now ∙ x.count)
 
 pub next_operation-k-requires : goal.next_operation-k-requires
 next_operation-k-requires c =
-    let few = c.loop-q-test.true in
-    let low : c.loop-q.q < 16 = omega (arith, few, c.requires.0) in
+    let low : c.loop-q.q < 16 = omega (arith, c.loop-q-test.true, c.requires.0) in
     (low, c.requires.1 _ low)
-
-pub loop-q-preserved-then-k-least : goal.loop-q-preserved-then-k-least
-loop-q-preserved-then-k-least c =
-    let few = c.loop-q-test.true in (
-      omega (arith, few),
-      λ t x e. lowest-new t c.args.done.now _
-          (c.loop-q.invariant.1 t x e)
-          (c.next_operation-k.ensures t x (omega (arith, few, e))) c.if-k-least.true,
-    )
 
 pub loop-q-preserved : goal.loop-q-preserved
 loop-q-preserved c =
-    let few = c.loop-q-test.true in (
-      omega (arith, few),
-      λ t x e. lowest-old t c.args.done.now _
-          (c.loop-q.invariant.1 t x e)
-          (c.next_operation-k.ensures t x (omega (arith, few, e))) c.if-k-least.false,
-    )
-
-pub returns : goal.returns
-returns c =
     λ t x e.
-    let all : c.loop-q.q ≡ c.args.p = omega
-    (arith, c.loop-q.invariant.0, c.loop-q-test.false) in
-    rw all at (c.loop-q.invariant.1 t x e)
+    let old = c.loop-q.invariant t x e in
+    let next = c.next_operation-k.ensures t x (omega (arith, c.loop-q-test.true, e)) in
+    elim c.if-k-least.branch [
+      | then-k-least w ↦ w.least-is ∙ lowest-new t c.args.done.now _ old next w.if-k-least.true
+      | else-k-least w ↦ w.least-is ∙ lowest-old t c.args.done.now _ old next w.if-k-least.false
+    ]

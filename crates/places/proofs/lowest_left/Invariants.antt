@@ -1,13 +1,10 @@
 -- `lowest_left` meets its contract. The invariant: the lowest of the workers below q. Assumes nothing.
 use mathlib.Core.Path.{◌≡◌}
-use Prim.Native.Nat.{◌-◌, ◌≤◌}
 use Rattle.trace.specs.Trace.{Trace}
 use Rattle.index.specs.Indexed.{Places}
 use Rattle.states.specs.States.{lowest_left}
 use Rattle.places.proofs.lowest_left.Given as goal
 
 abbrev pub invariant-loop-q : goal.invariant-loop-q
-invariant-loop-q l = (l.q ≤ l.p) × ((t : Trace) → Places t l.n l.order l.starts → l.p ≡ t.workers → l.least ≡ lowest_left t l.done l.q)
-
-abbrev pub decreases-loop-q : goal.decreases-loop-q
-decreases-loop-q l = l.p - l.q
+invariant-loop-q l =
+    (t : Trace) → Places t l.n l.index.order l.index.starts → l.p ≡ t.workers → l.least ≡ lowest_left t l.done l.q

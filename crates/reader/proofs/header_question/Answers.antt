@@ -2,7 +2,7 @@
 -- questions after it decide. Assumes nothing.
 use mathlib.Core.Bool.{Bool, true}
 use mathlib.Core.List.{List}
-use mathlib.Core.Path.{◌≡◌, sym, ◌∙◌}
+use mathlib.Core.Path.{◌≡◌, sym, ap, ◌∙◌}
 use Prim.Native.Nat.{ℕ}
 use lib.ListN.{drop}
 use borrow.Author.Tests.{leb-true}
@@ -11,6 +11,7 @@ use Rattle.trace.specs.Form.{base}
 use Rattle.trace.specs.Questions.{Question, operation_in, first_no, is_header, workers_fit, count_fits, is_whole}
 use Rattle.trace.specs.Questions.{header_questions, header_question}
 use Rattle.trace.proofs.Answered.{first-no, first_next, header-long}
+use Rattle.reader.specs.Answer.{refusing}
 use Rattle.reader.proofs.header_question.Goals as goal
 
 -- what the code answered of the header that it read is the question's answer of the file
@@ -56,7 +57,7 @@ count_test o = count_fits o.number
 pub returns-then-not-is_header : goal.returns-then-not-is_header
 unfolding header_question
 returns-then-not-is_header c =
-    sym (first-no _ 1 (from c.args.file.now 1) (sym c.is_header.ensures ∙ c.if-not-is_header.true))
+    ap refusing (sym (first-no _ 1 (from c.args.file.now 1) (sym c.is_header.ensures ∙ c.if-not-is_header.true)))
 
 pub operation_in-header-requires : goal.operation_in-header-requires
 operation_in-header-requires c = header-long _ _ (sym c.is_header.ensures ∙ c.if-not-is_header.false)
@@ -66,9 +67,10 @@ returns-then-not-workers_fit c =
     let file = c.args.file.now in
     let e = c.operation_in-header.ensures in
     let w = answer-of worker_test e c.workers_fit.ensures c.if-not-workers_fit.true in
-    sym
+    ap refusing
+    (sym
     (after-1 file (sym c.is_header.ensures ∙ c.if-not-is_header.false)
-    ∙ first-no _ 2 (from file 2) w)
+    ∙ first-no _ 2 (from file 2) w))
 
 pub returns-then-not-count_fits : goal.returns-then-not-count_fits
 returns-then-not-count_fits c =
@@ -76,9 +78,10 @@ returns-then-not-count_fits c =
     let e = c.operation_in-header.ensures in
     let w = answer-of worker_test e c.workers_fit.ensures c.if-not-workers_fit.false in
     let n = answer-of count_test e c.count_fits.ensures c.if-not-count_fits.true in
-    sym
+    ap refusing
+    (sym
     (after-2 file (sym c.is_header.ensures ∙ c.if-not-is_header.false) w
-    ∙ first-no _ 3 (from file 3) n)
+    ∙ first-no _ 3 (from file 3) n))
 
 pub is_whole-requires : goal.is_whole-requires
 is_whole-requires c = leb-true _ _ (sym c.count_fits.ensures ∙ c.if-not-count_fits.false)
@@ -91,9 +94,10 @@ returns-then-not-is_whole c =
     let n = answer-of count_test e c.count_fits.ensures c.if-not-count_fits.false in
     let l =
     answer-of (λ (o : Operation). is_whole base o.number file) e c.is_whole.ensures c.if-not-is_whole.true in
-    sym
+    ap refusing
+    (sym
     (after-3 file (sym c.is_header.ensures ∙ c.if-not-is_header.false) w n
-    ∙ first-no _ 4 (from file 4) l)
+    ∙ first-no _ 4 (from file 4) l))
 
 pub returns : goal.returns
 returns c =
@@ -103,4 +107,4 @@ returns c =
     let n = answer-of count_test e c.count_fits.ensures c.if-not-count_fits.false in
     let l =
     answer-of (λ (o : Operation). is_whole base o.number file) e c.is_whole.ensures c.if-not-is_whole.false in
-    sym (after-4 file (sym c.is_header.ensures ∙ c.if-not-is_header.false) w n l)
+    ap refusing (sym (after-4 file (sym c.is_header.ensures ∙ c.if-not-is_header.false) w n l))

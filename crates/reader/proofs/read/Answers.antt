@@ -1,21 +1,14 @@
 -- `read` meets its contract. Assumes nothing.
-use mathlib.Core.Path.{◌∙◌, sym}
-use native.Mathlib.Omega.{arith}
-use Rattle.trace.specs.Form.{base}
-use Rattle.trace.specs.Reading.{file_reading}
-use Rattle.trace.proofs.Answered.{header-answered}
-use Rattle.reader.proofs.ReaderSteps.{header-refuses, header-holds}
+use Rattle.std.proofs.lemmas.Result.{err_from_is_err_and}
+use Rattle.reader.proofs.Answers.{answer-refused, answer-read}
 use Rattle.reader.proofs.read.Goals as goal
 
-pub returns-then-q-ne0 : goal.returns-then-q-ne0
-unfolding file_reading
-returns-then-q-ne0 c = sym (header-refuses base _ _ c.header_question-q.ensures c.if-q-ne0.true)
+pub returns-in_err-trace : goal.returns-in_err-trace
+returns-in_err-trace c =
+    let p = err_from_is_err_and c.from_residual.result c.from_residual.ensures.1 in
+    rw (p.1, p.2) (answer-refused _ c.in_err-trace.ensures)
 
-pub operation_in-header-requires : goal.operation_in-header-requires
-operation_in-header-requires c =
-    let h = header-answered base _ (sym c.header_question-q.ensures ∙ c.if-q-ne0.false) in
-    omega (arith, h.whole)
-
-pub read_records-requires : goal.read_records-requires
-read_records-requires c =
-    header-holds base _ _ c.header_question-q.ensures _ c.operation_in-header.ensures c.if-q-ne0.false
+pub returns : goal.returns
+returns c =
+    let same = c.in_ok-trace.ensures in
+    rw (c.counts.ensures, same) (answer-read _ (rw same at c.in_ok-trace.trace.holds.trace))

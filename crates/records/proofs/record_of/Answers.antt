@@ -4,5 +4,4 @@ use Rattle.records.proofs.Fields.{base-fields}
 use Rattle.records.proofs.record_of.Goals as goal
 
 pub returns : goal.returns
-returns c =
-    λ rank. base-fields _ rank c.bytes16-low.ensures c.bytes16-high.ensures c.bytes16-count.ensures
+returns c = λ rank. base-fields _ rank c.to_le_bytes-number.ensures c.to_le_bytes-length.ensures

@@ -1,11 +1,15 @@
 -- `write_run` meets its contract. Assumes nothing.
+use mathlib.Core.Path.{◌≡◌}
+use lib.ListN.{length}
+use borrow.Author.Rules.{rules}
 use Rattle.trace.specs.Trace.{size}
 use Rattle.run_writer.proofs.Runs.{written_start, written-let-in, writes-run}
 use Rattle.run_writer.proofs.write_run.Goals as goal
 
 pub write_walk-at-requires : goal.write_walk-at-requires
 write_walk-at-requires c =
-    let (few, low, x, room) = c.requires in
+    let (few, low, x) = c.requires in
+    let (y, none) = c.begin_without.ensures in
     record {
       trace = x.trace;
       count = x.count;
@@ -13,19 +17,19 @@ write_walk-at-requires c =
       places = x.places;
       out = x.out;
       base = _;
-      written = written_start x.left_out c.begin_without.ensures c.below-all.ensures room;
+      written = written_start x.left_out y none c.below-all.ensures;
     }
 
 pub let_in-requires : goal.let_in-requires
 let_in-requires c =
-    let y = c.begin_without.ensures in
+    let (y, none) = c.begin_without.ensures in
     (y.low, (y.opens.each _ y.low).2)
 
 pub write_walk-requires : goal.write_walk-requires
 write_walk-requires c =
-    let (few, low, x, room) = c.requires in
-    let y = c.begin_without.ensures in
-    let start = written_start x.left_out y c.below-all.ensures room in
+    let (few, low, x) = c.requires in
+    let (y, none) = c.begin_without.ensures in
+    let start = written_start x.left_out y none c.below-all.ensures in
     let w = c.write_walk-at.ensures x.trace x.count x.out _ x.few x.places start in
     record {
       trace = x.trace;
@@ -40,8 +44,9 @@ write_walk-requires c =
 pub returns : goal.returns
 returns c =
     λ t n b small places left.
-    let (few, low, x, room) = c.requires in
-    let y = c.begin_without.ensures in
-    let w = c.write_walk-at.ensures t n b _ small places (written_start left y c.below-all.ensures room) in
+    let (few, low, x) = c.requires in
+    let (y, none) = c.begin_without.ensures in
+    let w = c.write_walk-at.ensures t n b _ small places (written_start left y none c.below-all.ensures) in
     let own = written-let-in left y w c.let_in.ensures c.with-own.ensures in
-    writes-run left y w (c.write_walk.ensures t n (size t) w.more small places own)
+    let room : length c.write_walk.new.run ≡ 1024 = search rules in
+    writes-run left y w (c.write_walk.ensures t n (size t) w.more small places own) room

@@ -1,7 +1,10 @@
 -- `write_walk` meets its contract. The invariant: what the walk has added is written. Assumes nothing.
 use native.Mathlib.Omega.{arith}
-use Rattle.run_writer.proofs.Turns.{written-turn, writing-on, writing-place, writing-inside, writing-room}
-use Rattle.run_writer.proofs.Turns.{writing-turn}
+use mathlib.Core.Path.{◌≡◌}
+use Prim.Native.Nat.{◌+◌, ◌-◌}
+use lib.ListN.{length}
+use borrow.Author.Rules.{rules}
+use Rattle.run_writer.proofs.Turns.{written-turn, writing-on, writing-inside, writing-room, writing-turn, copied}
 use Rattle.run_writer.proofs.write_walk.Goals as goal
 
 pub loop-ready-init : goal.loop-ready-init
@@ -17,34 +20,29 @@ turn-ready-requires c =
 pub overflow_sub-more : goal.overflow_sub-more
 overflow_sub-more c =
     let on = writing-on c.loop-ready.invariant.0 c.lowest-q.ensures c.turn-ready.ensures in
-    omega (arith, on, c.index.ensures.0, c.index-before.ensures.0)
-
-pub overflow_add-index : goal.overflow_add-index
-overflow_add-index c =
-    let place = writing-place c.loop-ready.invariant.0 c.lowest-q.ensures c.turn-ready.ensures in
-    let on = writing-on c.loop-ready.invariant.0 c.lowest-q.ensures c.turn-ready.ensures in
-    record { fits = omega (arith, place, on, c.index-in-loop-ready.ensures.0, c.index-before.ensures.0) }
-
-pub copy-requires : goal.copy-requires
-copy-requires c =
-    let w = c.loop-ready.invariant.0 in
-    let first = c.lowest-q.ensures in
-    let u = c.turn-ready.ensures in
-    let on = writing-on w first u in
-    let start = c.index-in-loop-ready.ensures.0 in
-    let before = c.index-before.ensures.0 in
-    let after = c.index.ensures.0 in (
-      omega (arith, writing-place w first u, on, start, before, after),
-      omega (arith, writing-inside w first u, on, start, before, after),
-      omega (arith, writing-room w first u, before, after),
-      w.written.room,
-    )
+    omega (arith, on, c.from.ensures, c.from-before.ensures)
 
 pub overflow_add-at : goal.overflow_add-at
 overflow_add-at c =
-    let room = writing-room c.loop-ready.invariant.0 c.lowest-q.ensures
-    c.turn-ready.ensures in
-    record { fits = omega (arith, room, c.index.ensures.0, c.index-before.ensures.0) }
+    let room = writing-room c.loop-ready.invariant.0 c.lowest-q.ensures c.turn-ready.ensures in
+    record { fits = omega (arith, room, c.from.ensures, c.from-before.ensures) }
+
+pub offset_bounds-run-at : goal.offset_bounds-run-at
+offset_bounds-run-at c =
+    let room = writing-room c.loop-ready.invariant.0 c.lowest-q.ensures c.turn-ready.ensures in
+    record { fits = omega (arith, room) }
+
+pub slice_bounds-copy_from_slice-end : goal.slice_bounds-copy_from_slice-end
+slice_bounds-copy_from_slice-end c =
+    let room = writing-room c.loop-ready.invariant.0 c.lowest-q.ensures c.turn-ready.ensures in
+    let long : length c.loop-ready.run ≡ 1024 = search rules in
+    omega (arith, room, long, c.from.ensures, c.from-before.ensures)
+
+pub slice_bounds-copy_from_slice-end-in-loop-ready : goal.slice_bounds-copy_from_slice-end-in-loop-ready
+slice_bounds-copy_from_slice-end-in-loop-ready c =
+    let inside = writing-inside c.loop-ready.invariant.0 c.lowest-q.ensures c.turn-ready.ensures in
+    let on = writing-on c.loop-ready.invariant.0 c.lowest-q.ensures c.turn-ready.ensures in
+    omega (arith, inside, on, c.from-in-loop-ready.ensures, c.from.ensures, c.from-before.ensures)
 
 pub loop-ready-smaller : goal.loop-ready-smaller
 loop-ready-smaller c =
@@ -55,12 +53,17 @@ loop-ready-preserved c =
     let (w, on) = c.loop-ready.invariant in
     let first = c.lowest-q.ensures in
     let u = c.turn-ready.ensures in
-    let start = c.index-in-loop-ready.ensures.0 in
-    let before = c.index-before.ensures.0 in
-    let after = c.index.ensures.0 in
-    let written = c.copy.ensures in
-    rw (written, start, before, after)
-    (writing-turn w first u, λ t n a base few x y. written-turn x few (on t n a base few x y) first u)
+    let start = c.from-in-loop-ready.ensures in
+    let before = c.from-before.ensures in
+    let after = c.from.ensures in
+    let on' = writing-on w first u in
+    let long : length c.loop-ready.run ≡ 1024 = search rules in
+    let before' = c.from-before.result in
+    let more = c.from.result - before' in
+    let same = copied c.args.index.now.order c.loop-ready.run (c.from-in-loop-ready.result + before') c.loop-ready.at more
+    (omega (arith, writing-inside w first u, on', start, before, after)) c.copy_from_slice.ensures.after in
+    rw (same, start, before, after)
+    (writing-turn w first u long, λ t n a base few x y. written-turn x few (on t n a base few x y) first u long)
 
 pub returns : goal.returns
 returns c = λ t n a base few x w. rw (← c.loop-ready-test.false) (c.loop-ready.invariant.1 t n a base few x w)

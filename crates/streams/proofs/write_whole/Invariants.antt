@@ -1,4 +1,4 @@
--- `write_whole`: the first `count` bytes are written, and each time there are fewer calls left.
+-- `write_whole`: the first `count` bytes are written.
 use Rattle.std.proofs.Common.{◌≤◌, length, take}
 use Rattle.std.specs.Io.KnownBytes.{Appends}
 use Rattle.streams.proofs.write_whole.Given as goal
@@ -7,6 +7,3 @@ abbrev pub invariant-loop-calls : goal.invariant-loop-calls
 invariant-loop-calls g l =
     (l.count ≤ length l.bytes)
     × Appends (g.W.Write.contents l.initial.writer) (g.W.Write.contents l.writer) (take l.count l.bytes)
-
-abbrev pub decreases-loop-calls : goal.decreases-loop-calls
-decreases-loop-calls g l = l.calls

@@ -1,10 +1,6 @@
--- `list` meets its contract. The invariant: the numbers below i are listed. Assumes nothing.
-use Prim.Native.Nat.{◌-◌}
+-- `list` meets its contract. The invariant: the numbers of the first k bytes are listed. Assumes nothing.
 use Rattle.word_lists.proofs.Lists.{ListedBelow}
 use Rattle.word_lists.proofs.list.Given as goal
 
-abbrev pub invariant-loop-i : goal.invariant-loop-i
-invariant-loop-i l = ListedBelow l.x l.first l.at l.initial.row l.i l.end l.row
-
-abbrev pub decreases-loop-i : goal.decreases-loop-i
-decreases-loop-i l = 32 - l.i
+abbrev pub invariant-loop-k : goal.invariant-loop-k
+invariant-loop-k l = ListedBelow l.x l.first l.at l.initial.row l.k l.end l.row

@@ -4,7 +4,7 @@ use Rattle.word_lists.proofs.Digits.{member-at}
 use Rattle.word_lists.proofs.member.Goals as goal
 
 pub overflow_sub-result : goal.overflow_sub-result
-overflow_sub-result c = omega (arith, member-at c.args.x c.args.j c.requires.0 c.requires.1)
+overflow_sub-result c = omega (arith, member-at c.from.result c.args.j (omega arith) c.requires)
 
 pub returns : goal.returns
-returns c = omega (arith, member-at c.args.x c.args.j c.requires.0 c.requires.1)
+returns c = rw (← c.from.ensures) (omega (arith, member-at c.from.result c.args.j (omega arith) c.requires))
