@@ -148,38 +148,3 @@ impl TraceFile<'_> {
         usize::from(o.worker)
     }
 }
-
-// (old, goes when nobody calls it)
-pub fn worker_count(file: &[u8]) -> u8
-    requires { file_reading file.now ≡ reads (trace_of file.now) }
-    ensures { result ≡ (trace_of file.now).workers }
-{
-    let header = operation_in(file, 0);
-    header.worker
-}
-
-// (old)
-pub fn operation_count(file: &[u8]) -> u32
-    requires { file_reading file.now ≡ reads (trace_of file.now) }
-    ensures { result ≡ size (trace_of file.now) }
-{
-    let header = operation_in(file, 0);
-    header.number
-}
-
-// (old)
-pub fn operation_of(file: &[u8], k: usize) -> Operation
-    requires { k < size (trace_of file.now) }
-    ensures { result ≡ operation (trace_of file.now) k }
-{
-    operation_in(file, record_start(k))
-}
-
-// (old)
-pub fn worker_of(file: &[u8], k: usize) -> u8
-    requires { k < size (trace_of file.now) }
-    ensures { result ≡ (operation (trace_of file.now) k).worker }
-{
-    let o = operation_of(file, k);
-    o.worker
-}

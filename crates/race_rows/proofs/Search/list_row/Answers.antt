@@ -14,10 +14,9 @@ use Rattle.race_rows.proofs.Search.list_row.Goals as goal
 pub returns : goal.returns
 returns c =
     let kind = ap (λ (o : Operation). is_access o.kind) c.operation-o.ensures in
-    let none : race_row (trace_of c.args.self.now.filled.trace.bytes.now) c.args.self.now.next ≡ [] =
-    elim c.else-possible.branch [
+    let known = row-known _ _ c.args.some c.requires.1 (elim c.else-possible.branch [
       | else-possible-via-then-possible+else-is_access w ↦
-          row-no-access _ _ (sym kind ∙ sym w.is_access.ensures ∙ w.if-is_access.false)
-      | else-possible-via-else-possible w ↦ c.requires.1 (omega (arith, w.if-possible.false))
-    ] in
-    (row-empty (search rules) none, refl, refl)
+          rw (sym kind ∙ sym w.is_access.ensures ∙ w.if-is_access.false) (and-false (ltb 0 c.args.some))
+      | else-possible-via-else-possible w ↦ rw (le-ltb 0 c.args.some w.if-possible.false)
+    ]) in
+    (row-empty (search rules) known, refl, refl)
