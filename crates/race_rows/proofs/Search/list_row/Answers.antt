@@ -1,13 +1,12 @@
 -- `list_row` meets its contract. Assumes nothing.
-use mathlib.Core.List.{[]}
-use mathlib.Core.Path.{◌≡◌, refl, sym, ap, ◌∙◌}
-use native.Mathlib.Omega.{arith}
+use mathlib.Core.Bool.{and-false}
+use mathlib.Core.Path.{refl, sym, ap, ◌∙◌}
 use borrow.Author.Rules.{rules}
+use borrow.Author.Tests.{le-ltb}
+use lib.Dec.{ltb}
 use Rattle.trace.specs.declared.Operation.{Operation}
-use Rattle.trace.specs.Reading.{trace_of}
 use Rattle.trace.specs.Trace.{is_access}
-use Rattle.race_model.specs.RaceRows.{race_row}
-use Rattle.race_rows.proofs.RowOpening.{row-no-access, row-empty}
+use Rattle.race_rows.proofs.RowOpening.{row-known, row-empty}
 use Rattle.race_rows.proofs.Search.list_row.Goals.{else-possible-via-then-possible+else-is_access, else-possible-via-else-possible}
 use Rattle.race_rows.proofs.Search.list_row.Goals as goal
 
