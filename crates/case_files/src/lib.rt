@@ -1,69 +1,71 @@
 // The file at hand of typed cases, as lines change it; what they say is told at the head of `typed_cases`.
 #![tactic(auto)]
 
-use case_lines::Line;
+use case_words::Change;
+use test_files::{Fields, Form};
 
 // The largest file that can be lent.
 pub const FILE: usize = 65546;
 
-fn clear(file: &mut [u8; FILE]) {
-    for i in 0..FILE {
-        file[i] = 0;
-    }
+// The file, and how many of its bytes are lent.
+#[derive(Clone, Copy)]
+pub struct FileAtHand {
+    pub bytes: [u8; FILE],
+    size: usize,
 }
 
-// A sum modulo 2^32.
-fn sum(x: u32, y: u32) -> u32 {
-    ((x as u64 + y as u64) % 4294967296) as u32
-}
+impl FileAtHand {
+    pub fn empty() -> Self {
+        FileAtHand {
+            bytes: [0; FILE],
+            size: 0,
+        }
+    }
 
-fn put_many(file: &mut [u8; FILE], count: usize, row: [u32; 24]) {
-    let mut k = basics::wide_index(row[1]);
-    let mut worker = row[3];
-    let mut number = row[6];
-    for i in 0..count {
-        test_files::put_operation(file, k, worker, row[5], number, row[8]);
-        k = k % 65536 + row[2] as usize % 65536;
-        worker = (worker % 16 + row[4] % 16) % 16;
-        number = sum(number, row[7]);
+    // The bytes that are lent, where there are so many.
+    pub fn lent(&self) -> Option<&[u8]> {
+        self.bytes.get(..self.size)
     }
-}
 
-// A file with nothing but its header; how many bytes it has.
-fn new_file(file: &mut [u8; FILE], workers: u32, operations: u32) -> usize {
-    clear(file);
-    test_files::put_header(file, test_files::PLAIN, workers, operations);
-    test_files::file_size(test_files::PLAIN, operations as usize)
-}
+    // A file with nothing but its header.
+    fn start(&mut self, workers: u32, operations: u32) {
+        self.bytes.fill(0);
+        test_files::put_header(&mut self.bytes, Form::Plain, workers, operations);
+        self.size = Form::Plain.file_size(operations as usize);
+    }
 
-// What the line says of the file; how many bytes are lent then, and more than there are where nothing is known of its
-// word.
-pub fn change_file(file: &mut [u8; FILE], size: usize, line: Line) -> usize {
-    let row = line.number;
-    if line.word == case_words::FILE {
-        return new_file(file, row[0], row[1]);
+    fn put_many(&mut self, row: &[u32; 24]) {
+        let mut k = row[1] as usize;
+        let mut fields = Fields {
+            worker: row[3],
+            kind: row[5],
+            number: row[6],
+            length: row[8],
+        };
+        for _ in 0..row[0] {
+            test_files::put_operation(&mut self.bytes, k, fields);
+            k = k % 65536 + row[2] as usize % 65536;
+            fields.worker = (fields.worker % 16 + row[4] % 16) % 16;
+            fields.number = fields.number.wrapping_add(row[7]);
+        }
     }
-    if line.word == case_words::OP {
-        test_files::put_operation(
-            file,
-            basics::wide_index(row[0]),
-            row[1],
-            row[2],
-            row[3],
-            row[4],
-        );
-        return size;
+
+    // What a line with these numbers says of the file.
+    pub fn change(&mut self, change: Change, row: &[u32; 24]) {
+        match change {
+            Change::File => self.start(row[0], row[1]),
+            Change::Op => {
+                let fields = Fields {
+                    worker: row[1],
+                    kind: row[2],
+                    number: row[3],
+                    length: row[4],
+                };
+                test_files::put_operation(&mut self.bytes, row[0] as usize, fields);
+            }
+            Change::Many => self.put_many(row),
+            Change::Byte => test_files::put_byte(&mut self.bytes, row[0] as usize, row[1]),
+            Change::Size => self.size = row[0] as usize,
+        }
     }
-    if line.word == case_words::MANY {
-        put_many(file, basics::wide_index(row[0]), row);
-        return size;
-    }
-    if line.word == case_words::BYTE {
-        test_files::put_byte(file, basics::wide_index(row[0]), row[1]);
-        return size;
-    }
-    if line.word == case_words::SIZE {
-        return basics::wide_index(row[0]);
-    }
-    FILE + 1
 }

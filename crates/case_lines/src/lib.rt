@@ -1,104 +1,82 @@
 // Lines of text: a word, and numbers behind it. A line that starts with '#' is a comment.
 #![tactic(auto)]
 
-fn byte_at(text: &[u8], i: usize) -> u8 {
-    if i < text.len() {
-        return text[i];
-    }
-    b'\n'
-}
+use case_words::Word;
 
-// A line: its word, how many numbers it has, the numbers, whether the last byte read was a digit, and where the next
-// line starts.
+// A line: its word, if it is known, how many numbers it has, the numbers, and whether the last byte read was a digit.
 #[derive(Clone, Copy)]
 pub struct Line {
-    pub word: usize,
-    pub count: usize,
+    pub word: Option<Word>,
+    count: usize,
     pub number: [u32; 24],
     inside: bool,
-    pub next: usize,
-}
-
-// The number with one digit more, modulo 2^32; and whether it is less.
-fn longer(number: u32, digit: u8) -> u32 {
-    ((number as u64 * 10 + digit as u64) % 4294967296) as u32
-}
-
-fn fits(number: u32, digit: u8) -> bool {
-    number as u64 * 10 + (digit as u64) < 4294967296
 }
 
 // More numbers than a line can have: from there on no more are counted. So is a line that is not of this form.
 const TOO_MANY: usize = 25;
 
-fn one_more(count: usize) -> usize {
-    if count < TOO_MANY {
-        return count + 1;
-    }
-    TOO_MANY
+// The number with one digit more, modulo 2^32; and whether it is less.
+fn longer(number: u32, digit: u8) -> (u32, bool) {
+    let more = number as u64 * 10 + digit as u64;
+    ((more % 4294967296) as u32, more < 4294967296)
 }
 
-// The line with one digit more.
-fn with_digit(line: Line, digit: u8) -> Line {
-    let mut more = line;
-    let count = if line.inside {
-        line.count
-    } else {
-        one_more(line.count)
-    };
-    let at = (count % 26 + 23) % 24;
-    let before = if line.inside { line.number[at] } else { 0 };
-    more.number[at] = longer(before, digit);
-    more.count = if fits(before, digit) { count } else { TOO_MANY };
-    more.inside = true;
-    more
-}
-
-fn with_byte(line: Line, byte: u8) -> Line {
-    if b'0' <= byte && byte <= b'9' {
-        return with_digit(line, byte - b'0');
-    }
-    let mut more = line;
-    more.inside = false;
-    if 0 < line.count && byte != b' ' {
-        more.count = TOO_MANY;
-    }
-    more
-}
-
-fn is_comment(text: &[u8], from: usize) -> bool {
-    byte_at(text, from) == b'#'
-}
-
-// The line that starts at a place of the text.
-pub fn line_at(text: &[u8], from: usize) -> Line {
-    let comment = is_comment(text, from);
-    let mut line = Line {
-        word: if comment {
-            case_words::NOTHING
-        } else {
-            case_words::word_at(text, from)
-        },
-        count: 0,
-        number: [0; 24],
-        inside: false,
-        next: text.len(),
-    };
-    for i in from..text.len() {
-        let byte = byte_at(text, i);
-        if byte == b'\n' {
-            line.next = i % 1000000 + 1;
-            return line;
-        }
+impl Line {
+    pub fn new(text: &[u8]) -> Self {
+        let comment = text.starts_with(b"#");
+        let mut line = Line {
+            word: if comment {
+                Some(Word::Nothing)
+            } else {
+                case_words::word_at(text)
+            },
+            count: 0,
+            number: [0; 24],
+            inside: false,
+        };
         if !comment {
-            line = with_byte(line, byte);
+            for byte in text {
+                line.add(*byte);
+            }
+        }
+        line
+    }
+
+    fn add_digit(&mut self, digit: u8) {
+        if !self.inside {
+            self.count = self.count.saturating_add(1).min(TOO_MANY);
+        }
+        let at = (self.count % 26 + 23) % 24;
+        let before = if self.inside { self.number[at] } else { 0 };
+        let (number, fits) = longer(before, digit);
+        self.number[at] = number;
+        if !fits {
+            self.count = TOO_MANY;
+        }
+        self.inside = true;
+    }
+
+    fn add(&mut self, byte: u8) {
+        if byte.is_ascii_digit() {
+            self.add_digit(byte - b'0');
+            return;
+        }
+        self.inside = false;
+        if 0 < self.count && byte != b' ' {
+            self.count = TOO_MANY;
         }
     }
-    line
-}
 
-// Is the word known, and has the line as many numbers as it needs?
-pub fn is_whole(line: Line) -> bool {
-    let refusal = line.number[case_words::given(line.word)];
-    line.count <= 24 && case_words::is_whole(line.word, line.count, refusal)
+    // The numbers of the line, 24 of them where it has too many.
+    pub fn numbers(&self) -> &[u32] {
+        &self.number[..self.count.min(24)]
+    }
+
+    // Is the word known, and has the line as many numbers as it needs?
+    pub fn is_whole(&self) -> bool {
+        match self.word {
+            Some(word) => self.count <= 24 && word.is_whole(self.numbers()),
+            None => false,
+        }
+    }
 }

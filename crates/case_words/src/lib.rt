@@ -3,186 +3,153 @@
 
 ghost use Rattle.std.specs.Prelude.{◌≤◌};
 
-// The words, by their places in the list below.
-pub const NOTHING: usize = 0;
-
-pub const FILE: usize = 1;
-
-pub const OP: usize = 2;
-
-pub const MANY: usize = 3;
-
-pub const BYTE: usize = 4;
-
-pub const SIZE: usize = 5;
-
-pub const PUT_FIRST: usize = 6;
-
-pub const PUT_SECOND: usize = 7;
-
-pub const HEADER: usize = 8;
-
-pub const RECORD: usize = 9;
-
-pub const ACCEPT: usize = 10;
-
-pub const TABLE: usize = 11;
-
-pub const PAIR: usize = 12;
-
-pub const RUNS: usize = 13;
-
-pub const RACES: usize = 14;
-
-pub const CANONICAL: usize = 15;
-
-pub const BEGINNING: usize = 16;
-
-pub const ENTRIES: usize = 17;
-
-pub const FIRST: usize = 18;
-
-pub const SECOND: usize = 19;
-
-pub const WRITTEN: usize = 20;
-
-pub const WORDS: usize = 21;
-
-fn byte_at(text: &[u8], i: usize) -> u8 {
-    if i < text.len() {
-        return text[i];
-    }
-    b'\n'
+// Changes of the file at hand.
+#[derive(Clone, Copy)]
+pub enum Change {
+    File,
+    Op,
+    Many,
+    Byte,
+    Size,
 }
 
-// The list of words, 17 bytes each: the word in 11; how many numbers stand behind it, of a call those that are lent or
-// passed; '-' where these are all, '+' where more may follow, or of a call how many values there are where none
-// refuses; and who obeys it: the file at hand, what is read at once, a call, or lent memory.
-fn listed(i: usize) -> u8 {
-    byte_at(
-        b"           0 - -
-file       2 - f
-op         5 - f
-many       9 - f
-byte       2 - f
-size       1 - f
-put-first  1 + m
-put-second 1 + m
-header     8 - r
-record     8 - r
-accept     0 2 c
-table      1 2 c
-pair       2 1 c
-runs       4 1 c
-races      3 3 c
-canonical  1 1 c
-beginning  4 2 c
-entries    2 + m
-first      2 + m
-second     2 + m
-written    2 + m
-",
-        i,
-    )
-}
-
-fn ends_word(byte: u8) -> bool {
-    byte == b' ' || byte == b'\n'
-}
-
-// How many bytes the word has that starts there; 12 where it is longer than any in the list.
-fn length_of(text: &[u8], from: usize) -> usize {
-    for i in 0..12 {
-        if ends_word(byte_at(text, from % 1000000 + i)) {
-            return i;
+impl Change {
+    // How many numbers stand behind the word.
+    fn numbers(self) -> usize {
+        match self {
+            Change::File | Change::Byte => 2,
+            Change::Op => 5,
+            Change::Many => 9,
+            Change::Size => 1,
         }
     }
-    12
 }
 
-// Byte i of the word that starts there, or a space behind it.
-fn letter(text: &[u8], from: usize, length: usize, i: usize) -> u8 {
-    if i < length {
-        return byte_at(text, from % 1000000 + i % 12);
-    }
-    b' '
+// Files that are read at once.
+#[derive(Clone, Copy)]
+pub enum AtOnce {
+    Header,
+    Record,
 }
 
-// Is the word that starts there the one at that place of the list?
-fn is_word(text: &[u8], from: usize, length: usize, word: usize) -> bool {
-    for i in 0..11 {
-        if letter(text, from, length, i) != listed(word % WORDS * 17 + i) {
-            return false;
+#[derive(Clone, Copy)]
+pub enum Call {
+    Accept,
+    Table,
+    Pair,
+    Runs,
+    Races,
+    Canonical,
+    Beginning,
+}
+
+impl Call {
+    // How many numbers are lent or passed.
+    pub fn lent(self) -> usize
+        ensures { result ≤ 4 }
+    {
+        match self {
+            Call::Accept => 0,
+            Call::Table | Call::Canonical => 1,
+            Call::Pair => 2,
+            Call::Races => 3,
+            Call::Runs | Call::Beginning => 4,
         }
     }
-    length < 12
-}
 
-// The place of the word that starts there; WORDS where it is not in the list.
-pub fn word_at(text: &[u8], from: usize) -> usize {
-    let length = length_of(text, from);
-    for word in 0..WORDS {
-        if is_word(text, from, length, word) {
-            return word;
+    // How many values the call answers.
+    fn values(self) -> usize
+        ensures { result ≤ 3 }
+    {
+        match self {
+            Call::Pair | Call::Runs | Call::Canonical => 1,
+            Call::Accept | Call::Table | Call::Beginning => 2,
+            Call::Races => 3,
         }
     }
-    WORDS
+
+    // Behind what is lent stand the number and place of the refusal, or 0 0 and the values.
+    fn is_whole(self, numbers: &[u32]) -> bool {
+        match numbers.get(self.lent()) {
+            Some(0) => numbers.len() == self.lent() + 2 + self.values(),
+            Some(_) => numbers.len() == self.lent() + 2,
+            None => false,
+        }
+    }
 }
 
-fn digit(byte: u8) -> usize
-    ensures { result ≤ 9 }
-{
-    if b'0' <= byte && byte <= b'9' {
-        return (byte - b'0') as usize % 10;
-    }
-    0
+// Memory that calls are lent: what is put there, and looks at it.
+#[derive(Clone, Copy)]
+pub enum Memory {
+    PutFirst,
+    PutSecond,
+    Entries,
+    First,
+    Second,
+    Written,
 }
 
-pub const OF_FILE: u8 = b'f';
-
-pub const READ_AT_ONCE: u8 = b'r';
-
-pub const CALL: u8 = b'c';
-
-pub const OF_MEMORY: u8 = b'm';
-
-// Who obeys the word.
-pub fn obeyed_by(word: usize) -> u8 {
-    listed(word % WORDS * 17 + 15)
+impl Memory {
+    // How many numbers stand behind the word at least.
+    fn least(self) -> usize {
+        match self {
+            Memory::PutFirst | Memory::PutSecond => 1,
+            Memory::Entries | Memory::First | Memory::Second | Memory::Written => 2,
+        }
+    }
 }
 
-// How many numbers stand behind the word, of a call those that are lent or passed.
-pub fn given(word: usize) -> usize
-    ensures { result ≤ 9 }
-{
-    digit(listed(word % WORDS * 17 + 11))
+#[derive(Clone, Copy)]
+pub enum Word {
+    Nothing,
+    Change(Change),
+    AtOnce(AtOnce),
+    Call(Call),
+    Memory(Memory),
 }
 
-// An answer has no more values.
-const MOST_VALUES: usize = 4;
-
-// How many values a call has by its mark in the list: none where it is refused by a number.
-fn values(mark: u8, number: u32) -> usize
-    ensures { result ≤ 9 }
-{
-    if number == 0 {
-        return digit(mark);
+impl Word {
+    // Has a line with this word and these numbers what it needs?
+    pub fn is_whole(self, numbers: &[u32]) -> bool {
+        match self {
+            Word::Nothing => numbers.is_empty(),
+            Word::Change(change) => numbers.len() == change.numbers(),
+            Word::AtOnce(_) => numbers.len() == 8,
+            Word::Call(call) => call.is_whole(numbers),
+            Word::Memory(memory) => memory.least() <= numbers.len(),
+        }
     }
-    0
 }
 
-// Has a line with this word, and so many numbers of which the refusal is `number` if it is a call, what it needs?
-pub fn is_whole(word: usize, count: usize, number: u32) -> bool {
-    let mark = listed(word % WORDS * 17 + 13);
-    let least = given(word);
-    if WORDS <= word {
-        return false;
+// The word that is written so, if there is one.
+fn word_of(name: &[u8]) -> Option<Word> {
+    match name {
+        b"" => Some(Word::Nothing),
+        b"file" => Some(Word::Change(Change::File)),
+        b"op" => Some(Word::Change(Change::Op)),
+        b"many" => Some(Word::Change(Change::Many)),
+        b"byte" => Some(Word::Change(Change::Byte)),
+        b"size" => Some(Word::Change(Change::Size)),
+        b"header" => Some(Word::AtOnce(AtOnce::Header)),
+        b"record" => Some(Word::AtOnce(AtOnce::Record)),
+        b"accept" => Some(Word::Call(Call::Accept)),
+        b"table" => Some(Word::Call(Call::Table)),
+        b"pair" => Some(Word::Call(Call::Pair)),
+        b"runs" => Some(Word::Call(Call::Runs)),
+        b"races" => Some(Word::Call(Call::Races)),
+        b"canonical" => Some(Word::Call(Call::Canonical)),
+        b"beginning" => Some(Word::Call(Call::Beginning)),
+        b"put-first" => Some(Word::Memory(Memory::PutFirst)),
+        b"put-second" => Some(Word::Memory(Memory::PutSecond)),
+        b"entries" => Some(Word::Memory(Memory::Entries)),
+        b"first" => Some(Word::Memory(Memory::First)),
+        b"second" => Some(Word::Memory(Memory::Second)),
+        b"written" => Some(Word::Memory(Memory::Written)),
+        _ => None,
     }
-    if mark == b'-' {
-        return count == least;
-    }
-    if mark == b'+' {
-        return least <= count;
-    }
-    digit(mark) <= MOST_VALUES && count == least + 2 + values(mark, number)
+}
+
+// The word with which a line starts, up to a space.
+pub fn word_at(line: &[u8]) -> Option<Word> {
+    word_of(line.split(|byte| *byte == b' ').next().unwrap_or(b""))
 }

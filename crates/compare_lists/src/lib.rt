@@ -1,202 +1,165 @@
 // The order table, the race list and the tidy file, compared with what all runs say.
 #![tactic(auto)]
 
-use outcomes::{Answer, SEEN};
+use expected::{Judgement, RACES, ROWS};
+use outcomes::{Due, Kind, Question, Seen};
+use test_memory::TwoLists;
 
 // The order table
 
 // How many numbers the table has, a row for each operation; of a refused file 128, so that memory is lent.
-fn table_size(reading: Answer) -> usize {
-    if reading.number != 0 {
-        return 128;
+fn table_size(reading: Due) -> usize {
+    match reading {
+        Ok([workers, operations, _, _]) => {
+            test_memory::product(operations as usize, workers as usize)
+        }
+        Err(_) => 128,
     }
-    test_memory::product(outcomes::value(reading, 1), outcomes::value(reading, 0))
 }
 
 // What is due from the table, where `reading` is due from reading the file.
-fn table_due(reading: Answer, size: usize) -> Answer {
-    if reading.number == 0 && size < table_size(reading) {
-        return outcomes::refusal(11, 0);
+fn table_due(reading: Due, size: usize) -> Due {
+    if reading.is_ok() && size < table_size(reading) {
+        return Err(Question::TableSpace.at(0));
     }
     reading
 }
 
-// How many numbers of the table are written, where `number` was due.
-fn table_written(reading: Answer, number: u8) -> usize {
-    if number == 0 {
-        return table_size(reading);
-    }
-    0
+// Does the table hold the rows, where such an answer was due, and then what was there?
+fn table_holds(table: &[u16; ROWS], judgement: &Judgement, due: Due) -> bool {
+    let written = match due {
+        Ok(_) => table_size(judgement.reading),
+        Err(_) => 0,
+    };
+    test_memory::holds(table, &judgement.rows, written)
 }
 
-fn table_call(
-    seen: &mut [u64; SEEN],
-    file: &[u8],
-    reading: Answer,
-    rows: &[u16; 136],
-    size: usize,
-) {
-    let mut table = [0u16; 136];
+fn table_call(seen: &mut Seen, file: &[u8], judgement: &Judgement, size: usize) {
+    let mut table = [0u16; ROWS];
     test_memory::fill(&mut table);
     let answer = answers::table_answer(file, &mut table, size);
-    let due = table_due(reading, size);
-    let memory = test_memory::holds(&table, rows, table_written(reading, due.number));
-    outcomes::compare(seen, answer, due, memory);
+    let due = table_due(judgement.reading, size);
+    let memory = table_holds(&table, judgement, due);
+    seen.compare(answer, due.into(), memory);
 }
 
-pub fn table_calls(seen: &mut [u64; SEEN], file: &[u8], reading: Answer, rows: &[u16; 136]) {
-    let size = table_size(reading);
-    table_call(seen, file, reading, rows, size);
-    table_call(seen, file, reading, rows, test_memory::less_one(size));
-    table_call(seen, file, reading, rows, test_memory::more(size, 5));
+pub fn table_calls(seen: &mut Seen, file: &[u8], judgement: &Judgement) {
+    let size = table_size(judgement.reading);
+    table_call(seen, file, judgement, size);
+    table_call(seen, file, judgement, size.saturating_sub(1));
+    table_call(seen, file, judgement, size.saturating_add(5));
 }
 
 // The race list
 
-// What is due from the race list, where `table` is due from the order table.
-fn races_due(table: Answer, races: usize, lower_size: usize, higher_size: usize) -> Answer {
-    if table.number != 0 {
-        return table;
-    }
-    if lower_size < races || higher_size < races {
-        return outcomes::refusal(16, test_memory::number(races));
-    }
-    let counts = table.values;
-    outcomes::success([counts[0], counts[1], test_memory::number(races), 0])
+// The races that are due, and how many there are; of a refused file 20, so that lists are lent.
+struct Races {
+    due: TwoLists<RACES>,
+    count: usize,
 }
 
-// Do the two lists hold all races after success, and else what was there?
-fn lists_hold<'a>(
-    file: &[u8],
-    orders: &[u32; 64],
-    refused: u8,
-    lower: &'a [u16],
-    higher: &'a [u16],
-) -> bool {
-    let mut lower_due = [0u16; 28];
-    let mut higher_due = [0u16; 28];
-    let races = expected::races_of(file, orders, &mut lower_due, &mut higher_due);
-    let written = if refused == 0 { races } else { 0 };
-    test_memory::holds(lower, &lower_due, written)
-        && test_memory::holds(higher, &higher_due, written)
+fn races_of(file: &[u8], judgement: &Judgement) -> Races {
+    let mut due = TwoLists::zeros();
+    let count = match judgement.reading {
+        Ok(_) => judgement.put_races(file, &mut due),
+        Err(_) => 20,
+    };
+    Races { due, count }
+}
+
+// What is due from the race list, where `table` is due from the order table.
+fn races_due(table: Due, races: usize, sizes: [usize; 3]) -> Due {
+    let [workers, operations, _, _] = table?;
+    if sizes[1] < races || sizes[2] < races {
+        return Err(Question::RaceSpace.at(test_memory::number(races)));
+    }
+    Ok([workers, operations, test_memory::number(races), 0])
 }
 
 // The race list with a table and two lists of these sizes.
 fn race_call(
-    seen: &mut [u64; SEEN],
+    seen: &mut Seen,
     file: &[u8],
-    reading: Answer,
-    rows: &[u16; 136],
-    orders: &[u32; 64],
-    races: usize,
+    judgement: &Judgement,
+    races: &Races,
     sizes: [usize; 3],
 ) {
-    let mut table = [0u16; 136];
-    let mut lower = [0u16; 34];
-    let mut higher = [0u16; 34];
+    let mut table = [0u16; ROWS];
+    let mut lists = TwoLists::<34>::filled();
     test_memory::fill(&mut table);
-    test_memory::fill(&mut lower);
-    test_memory::fill(&mut higher);
-    let of_table = table_due(reading, sizes[0]);
-    let due = races_due(of_table, races, sizes[1], sizes[2]);
-    let answer = answers::races_answer(file, &mut table, &mut lower, &mut higher, sizes);
-    let filled = test_memory::holds(&table, rows, table_written(reading, of_table.number));
-    let memory = filled && lists_hold(file, orders, due.number, &lower, &higher);
-    outcomes::compare(seen, answer, due, memory);
-}
-
-// How many races there are; of a refused file 20, so that lists are lent.
-fn race_count(file: &[u8], reading: Answer, orders: &[u32; 64]) -> usize {
-    let mut lower = [0u16; 28];
-    let mut higher = [0u16; 28];
-    if reading.number != 0 {
-        return 20;
-    }
-    expected::races_of(file, orders, &mut lower, &mut higher)
+    let of_table = table_due(judgement.reading, sizes[0]);
+    let due = races_due(of_table, races.count, sizes);
+    let answer = answers::races_answer(file, &mut table, &mut lists, sizes);
+    let written = if due.is_ok() { races.count } else { 0 };
+    let memory =
+        table_holds(&table, judgement, of_table) && lists.hold(&races.due, written);
+    seen.compare(answer, due.into(), memory);
 }
 
 // Space that just fits, that is longer, that is too short in one list or the other, and a table that is too short.
-fn race_sizes(size: usize, races: usize, way: usize) -> [usize; 3] {
-    let less = test_memory::less_one(races);
-    if way == 0 {
-        return [size, races, races];
-    }
-    if way == 1 {
-        return [
-            test_memory::more(size, 3),
-            test_memory::more(races, 4),
-            test_memory::more(races, 6),
-        ];
-    }
-    if way == 2 {
-        return [size, less, test_memory::more(races, 2)];
-    }
-    if way == 3 {
-        return [test_memory::more(size, 1), races, less];
-    }
-    [test_memory::less_one(size), less, less]
+fn race_sizes(size: usize, races: usize) -> [[usize; 3]; 5] {
+    let less = races.saturating_sub(1);
+    let more = races.saturating_add(2);
+    [
+        [size, races, races],
+        [size.saturating_add(3), races.saturating_add(4), races.saturating_add(6)],
+        [size, less, more],
+        [size.saturating_add(1), races, less],
+        [size.saturating_sub(1), less, less],
+    ]
 }
 
-pub fn race_calls(
-    seen: &mut [u64; SEEN],
-    file: &[u8],
-    reading: Answer,
-    rows: &[u16; 136],
-    orders: &[u32; 64],
-) {
-    let size = table_size(reading);
-    let races = race_count(file, reading, orders);
-    if reading.number == 0 {
-        outcomes::count(seen, outcomes::RACES, races as u64);
+pub fn race_calls(seen: &mut Seen, file: &[u8], judgement: &Judgement) {
+    let size = table_size(judgement.reading);
+    let races = races_of(file, judgement);
+    if judgement.reading.is_ok() {
+        seen.count(Kind::Races, races.count as u64);
     }
-    for way in 0..5 {
-        let sizes = race_sizes(size, races, way);
-        race_call(seen, file, reading, rows, orders, races, sizes);
+    for sizes in race_sizes(size, races.count) {
+        race_call(seen, file, judgement, &races, sizes);
     }
 }
 
 // The tidy file
 
-fn canonical_due(reading: Answer, file_size: usize, size: usize) -> Answer {
-    if reading.number != 0 {
-        return reading;
-    }
+fn canonical_due(reading: Due, file_size: usize, size: usize) -> Due {
+    reading?;
     if size < file_size {
-        return outcomes::refusal(17, 0);
+        return Err(Question::OutputSpace.at(0));
     }
-    outcomes::success([test_memory::number(file_size), 0, 0, 0])
+    Ok([test_memory::number(file_size), 0, 0, 0])
 }
 
 // Tidies the file into an output of that size, and expects the tidy file.
-fn canonical_call(seen: &mut [u64; SEEN], file: &[u8], reading: Answer, tidy: &[u8], size: usize) {
+fn canonical_call(seen: &mut Seen, file: &[u8], reading: Due, tidy: &[u8], size: usize) {
     let mut output = [0u8; 120];
-    test_memory::fill_bytes(&mut output);
+    test_memory::fill(&mut output);
     let answer = answers::canonical_answer(file, &mut output, size);
     let due = canonical_due(reading, file.len(), size);
-    let written = if due.number == 0 { file.len() } else { 0 };
-    let memory = test_memory::holds_bytes(&output, tidy, written);
-    outcomes::compare(seen, answer, due, memory);
+    let written = if due.is_ok() { file.len() } else { 0 };
+    let memory = test_memory::holds(&output, tidy, written);
+    seen.compare(answer, due.into(), memory);
 }
 
 // The tidy file is accepted with the same counts, and its own tidy file is the same.
-fn read_back(seen: &mut [u64; SEEN], reading: Answer, tidy: &[u8], size: usize) {
-    if size <= tidy.len() {
-        let file = &tidy[0..size];
-        outcomes::compare(seen, answers::accept_answer(file), reading, true);
-        canonical_call(seen, file, reading, tidy, size);
-        return;
+fn read_back(seen: &mut Seen, reading: Due, tidy: &[u8], size: usize) {
+    match tidy.get(..size) {
+        Some(file) => {
+            seen.compare(Some(answers::accept_answer(file)), reading.into(), true);
+            canonical_call(seen, file, reading, tidy, size);
+        }
+        None => seen.expect(false),
     }
-    outcomes::expect(seen, false);
 }
 
-pub fn canonical_calls(seen: &mut [u64; SEEN], file: &[u8], reading: Answer) {
+pub fn canonical_calls(seen: &mut Seen, file: &[u8], reading: Due) {
     let mut tidy = [0u8; 108];
     let size = file.len();
     plain_file::tidy_file(file, &mut tidy);
     canonical_call(seen, file, reading, &tidy, size);
-    canonical_call(seen, file, reading, &tidy, test_memory::less_one(size));
-    canonical_call(seen, file, reading, &tidy, test_memory::more(size, 4));
-    if reading.number == 0 {
+    canonical_call(seen, file, reading, &tidy, size.saturating_sub(1));
+    canonical_call(seen, file, reading, &tidy, size.saturating_add(4));
+    if reading.is_ok() {
         read_back(seen, reading, &tidy, size);
     }
 }

@@ -1,8 +1,9 @@
 // The race list on records, through a local list of records, and on two lists of numbers, compared.
 #![tactic(auto)]
 
-use outcomes::{Answer, RACES, SEEN};
+use outcomes::{Answer, Kind, Seen};
 use races::RacesAnswer;
+use test_memory::TwoLists;
 
 // The largest table, with some numbers more.
 pub const TABLE: usize = 16390;
@@ -15,52 +16,58 @@ fn numbers_of(answer: RacesAnswer) -> Answer {
             workers,
             operations,
             races,
-        } => outcomes::success([workers as u32, operations, races, 0]),
-        RacesAnswer::Refused { number, place } => outcomes::refusal(number, place),
+        } => Answer {
+            number: 0,
+            place: 0,
+            values: [workers as u32, operations, races, 0],
+        },
+        RacesAnswer::Refused { number, place } => Answer {
+            number,
+            place,
+            values: [0; 4],
+        },
     }
 }
 
-// The call on two lists of `room` numbers, with a table of `size` numbers.
-pub fn of_numbers(
-    file: &[u8],
-    table: &mut [u16],
-    size: usize,
-    lower: &mut [u16],
-    higher: &mut [u16],
-    room: usize,
-) -> Answer {
-    if table.len() < size || lower.len() < room || higher.len() < room {
-        return outcomes::no_answer();
-    }
-    let answer = races::races(
-        file,
-        &mut table[0..size],
-        &mut lower[0..room],
-        &mut higher[0..room],
-    );
-    numbers_of(answer)
+// The two calls, with a table of `size` numbers.
+#[derive(Clone, Copy)]
+pub enum Call {
+    // On two lists of `room` numbers.
+    Numbers,
+    // On a list of `room` records. The records come from two lists, and go back.
+    Records,
 }
 
-// The call on a list of `room` records, with a table of `size` numbers. The records come from two lists, and go back.
-pub fn of_records(
-    file: &[u8],
-    table: &mut [u16],
-    size: usize,
-    lower: &mut [u16],
-    higher: &mut [u16],
-    room: usize,
-) -> Answer {
-    if table.len() < size || lower.len() < room || higher.len() < room {
-        return outcomes::no_answer();
+impl Call {
+    // Makes the call; where there is not so much memory, there is no answer.
+    pub fn answer<const N: usize>(
+        self,
+        file: &[u8],
+        table: &mut [u16],
+        size: usize,
+        lists: &mut TwoLists<N>,
+        room: usize,
+    ) -> Option<Answer> {
+        let rows = table.get_mut(..size)?;
+        let answer = match self {
+            Call::Numbers => {
+                let lower = lists.first.get_mut(..room)?;
+                let higher = lists.second.get_mut(..room)?;
+                races::races(file, rows, lower, higher)
+            }
+            Call::Records if room <= N => {
+                lent_list::list_races(file, rows, room, &mut lists.first, &mut lists.second)
+            }
+            Call::Records => return None,
+        };
+        Some(numbers_of(answer))
     }
-    let answer = lent_list::list_races(file, &mut table[0..size], room, lower, higher);
-    numbers_of(answer)
 }
 
 // Notes what the call on records gave, what was due from it, and whether the memory is as due.
-pub fn note_calls(seen: &mut [u64; SEEN], given: Answer, due: Answer, memory: bool) {
-    outcomes::compare(seen, given, due, memory);
-    outcomes::count(seen, RACES, outcomes::value(due, 2) as u64);
+pub fn note_calls(seen: &mut Seen, given: Option<Answer>, due: Answer, memory: bool) {
+    seen.compare(given, due, memory);
+    seen.count(Kind::Races, due.values[2] as u64);
 }
 
 // Any trace
@@ -70,33 +77,21 @@ pub const LIST: usize = 20000;
 
 // Makes both calls. All numbers of the tables and of the lists are compared, and those behind the races with what was
 // there before.
-pub fn compare_calls(seen: &mut [u64; SEEN], file: &[u8], size: usize, room: usize) {
+pub fn compare_calls(seen: &mut Seen, file: &[u8], size: usize, room: usize) {
     let mut table = [0u16; TABLE];
-    let mut lower = [0u16; LIST];
-    let mut higher = [0u16; LIST];
     let mut rows = [0u16; TABLE];
-    let mut lower_given = [0u16; LIST];
-    let mut higher_given = [0u16; LIST];
+    let mut lists = TwoLists::<LIST>::filled();
+    let mut lists_given = TwoLists::<LIST>::filled();
     test_memory::fill(&mut table);
-    test_memory::fill(&mut lower);
-    test_memory::fill(&mut higher);
     test_memory::fill(&mut rows);
-    test_memory::fill(&mut lower_given);
-    test_memory::fill(&mut higher_given);
-    let due = of_numbers(file, &mut table, size, &mut lower, &mut higher, room);
-    let given = of_records(
-        file,
-        &mut rows,
-        size,
-        &mut lower_given,
-        &mut higher_given,
-        room,
-    );
-    let written = outcomes::value(due, 2);
-    let memory = test_memory::holds(&rows, &table, TABLE)
-        && test_memory::holds(&lower_given, &lower, written)
-        && test_memory::holds(&higher_given, &higher, written)
-        && test_memory::holds(&lower, &lower, written)
-        && test_memory::holds(&higher, &higher, written);
+    let due = Call::Numbers.answer(file, &mut table, size, &mut lists, room);
+    let given = Call::Records.answer(file, &mut rows, size, &mut lists_given, room);
+    let Some(due) = due else {
+        seen.expect(false);
+        return;
+    };
+    let written = due.values[2] as usize;
+    let memory =
+        rows == table && lists_given.hold(&lists, written) && lists.untouched_from(written);
     note_calls(seen, given, due, memory);
 }

@@ -2,8 +2,9 @@
 // and the calls on a large trace that is refused.
 #![tactic(auto)]
 
-use large_rows::TABLE;
-use outcomes::{Answer, SEEN};
+use large_rows::{Rows, TABLE};
+use outcomes::{Due, Kind, Question, Seen};
+use test_memory::TwoLists;
 
 // Space for a list of races and for a tidy file.
 const LIST: usize = 20000;
@@ -13,162 +14,127 @@ const OUTPUT: usize = 12400;
 // Races
 
 // What is due from the race list in two lists of so many places, where `table` is due from the order table.
-fn races_due(table: Answer, races: usize, room: usize) -> Answer {
+fn races_due(table: Due, races: usize, room: usize) -> Due {
+    let [workers, operations, _, _] = table?;
     if room < races {
-        return outcomes::refusal(16, test_memory::number(races));
+        return Err(Question::RaceSpace.at(test_memory::number(races)));
     }
-    let counts = table.values;
-    outcomes::success([counts[0], counts[1], test_memory::number(races), 0])
+    Ok([workers, operations, test_memory::number(races), 0])
 }
 
-// The race list in two lists of so many places. The table has `size` numbers, and the races that are due are given.
-fn race_call(
-    seen: &mut [u64; SEEN],
-    file: &[u8],
-    due: Answer,
+// An accepted trace: its file, what is due from reading it, its table, of which `size` numbers are due, and its races.
+#[derive(Clone, Copy)]
+struct Case<'a> {
+    file: &'a [u8],
+    reading: Due,
+    table: &'a [u16; TABLE],
     size: usize,
-    table: &[u16; TABLE],
-    room: usize,
-    lower_due: &[u16; LIST],
-    higher_due: &[u16; LIST],
-) {
-    let mut lower = [0u16; LIST];
-    let mut higher = [0u16; LIST];
-    let mut rows = [0u16; TABLE];
-    test_memory::fill(&mut rows);
-    test_memory::fill(&mut lower);
-    test_memory::fill(&mut higher);
-    let sizes = [size, room, room];
-    let answer = answers::races_answer(file, &mut rows, &mut lower, &mut higher, sizes);
-    let written = outcomes::value(due, 2);
-    let listed = test_memory::holds(&lower, lower_due, written)
-        && test_memory::holds(&higher, higher_due, written);
-    outcomes::compare(
-        seen,
-        answer,
-        due,
-        listed && test_memory::holds(&rows, table, size),
-    );
+    lists: &'a TwoLists<LIST>,
+    races: usize,
 }
 
-// Lists that just fit, or that are as long as can be where there are very many races, and lists that are too short.
+impl<'a> Case<'a> {
+    // The race list in two lists of so many places.
+    fn call(&self, seen: &mut Seen, room: usize) {
+        let mut lists = TwoLists::<LIST>::filled();
+        let mut rows = [0u16; TABLE];
+        test_memory::fill(&mut rows);
+        let sizes = [self.size, room, room];
+        let due = races_due(self.reading, self.races, room);
+        let answer = answers::races_answer(self.file, &mut rows, &mut lists, sizes);
+        let written = if due.is_ok() { self.races } else { 0 };
+        let memory = lists.hold(self.lists, written)
+            && test_memory::holds(&rows, self.table, self.size);
+        seen.compare(answer, due.into(), memory);
+    }
+}
+
+// Lists that just fit, or that are as long as can be where there are very many races, and lists that are too short. Of
+// the table `size` numbers are due.
 pub fn race_calls(
-    seen: &mut [u64; SEEN],
+    seen: &mut Seen,
     file: &[u8],
-    reading: Answer,
-    size: usize,
+    reading: Due,
     table: &[u16; TABLE],
-    rank: &[usize; 1024],
+    size: usize,
 ) {
-    let mut lower = [0u16; LIST];
-    let mut higher = [0u16; LIST];
-    let races = large_rows::races_by_rows(file, table, rank, &mut lower, &mut higher);
-    let room = if races < LIST { races } else { LIST };
-    let short = test_memory::less_one(room);
-    let due = races_due(reading, races, room);
-    race_call(seen, file, due, size, table, room, &lower, &higher);
-    let due_short = races_due(reading, races, short);
-    race_call(seen, file, due_short, size, table, short, &lower, &higher);
-    outcomes::count(seen, outcomes::RACES, races as u64);
+    let mut lists = TwoLists::zeros();
+    let races = Rows::new(file, table).put_races(&mut lists);
+    let room = races.min(LIST);
+    let case = Case {
+        file,
+        reading,
+        table,
+        size,
+        lists: &lists,
+        races,
+    };
+    case.call(seen, room);
+    case.call(seen, room.saturating_sub(1));
+    seen.count(Kind::Races, races as u64);
 }
 
 // The tidy file
 
 // The tidy file is written, and reads back with the same counts.
-pub fn tidy_call(seen: &mut [u64; SEEN], file: &[u8], reading: Answer) {
+pub fn tidy_call(seen: &mut Seen, file: &[u8], reading: Due) {
     let size = file.len();
     let mut tidy = [0u8; OUTPUT];
     let mut output = [0u8; OUTPUT];
     plain_file::tidy_file(file, &mut tidy);
-    test_memory::fill_bytes(&mut output);
+    test_memory::fill(&mut output);
     let answer = answers::canonical_answer(file, &mut output, size);
-    let due = outcomes::success([test_memory::number(size), 0, 0, 0]);
-    outcomes::compare(
-        seen,
-        answer,
-        due,
-        test_memory::holds_bytes(&output, &tidy, size),
-    );
-    if size <= OUTPUT {
-        outcomes::compare(
-            seen,
-            answers::accept_answer(&output[0..size]),
-            reading,
-            true,
-        );
+    let due = Ok([test_memory::number(size), 0, 0, 0]);
+    seen.compare(answer, due.into(), test_memory::holds(&output, &tidy, size));
+    if let Some(written) = output.get(..size) {
+        seen.compare(Some(answers::accept_answer(written)), reading.into(), true);
     }
 }
 
 // Space that is too short
 
 // A table and an output that are one too short.
-pub fn short_calls(seen: &mut [u64; SEEN], file: &[u8], size: usize) {
+pub fn short_calls(seen: &mut Seen, file: &[u8], size: usize) {
     let mut table = [0u16; TABLE];
     let mut output = [0u8; OUTPUT];
     test_memory::fill(&mut table);
-    test_memory::fill_bytes(&mut output);
-    let rows = answers::table_answer(file, &mut table, test_memory::less_one(size));
-    let room = test_memory::less_one(file.len());
-    let canonical = answers::canonical_answer(file, &mut output, room);
-    let untouched = test_memory::holds_bytes(&output, &output, 0);
-    outcomes::compare(
-        seen,
-        rows,
-        outcomes::refusal(11, 0),
-        test_memory::untouched(&table),
-    );
-    outcomes::compare(seen, canonical, outcomes::refusal(17, 0), untouched);
+    test_memory::fill(&mut output);
+    let rows = answers::table_answer(file, &mut table, size.saturating_sub(1));
+    let canonical = answers::canonical_answer(file, &mut output, file.len().saturating_sub(1));
+    let rows_due = Err(Question::TableSpace.at(0));
+    let canonical_due = Err(Question::OutputSpace.at(0));
+    seen.compare(rows, rows_due.into(), test_memory::untouched(&table));
+    seen.compare(canonical, canonical_due.into(), test_memory::untouched(&output));
 }
 
 // Refused files
 
-fn refused_lists(seen: &mut [u64; SEEN], file: &[u8], due: Answer) {
+fn refused_lists(seen: &mut Seen, file: &[u8], due: Due) {
     let mut table = [0u16; 20];
-    let mut lower = [0u16; 20];
-    let mut higher = [0u16; 20];
+    let mut lists = TwoLists::<20>::filled();
     test_memory::fill(&mut table);
-    test_memory::fill(&mut lower);
-    test_memory::fill(&mut higher);
     let rows = answers::table_answer(file, &mut table, 20);
-    let races = answers::races_answer(file, &mut table, &mut lower, &mut higher, [20, 20, 20]);
-    outcomes::compare(seen, rows, due, test_memory::untouched(&table));
-    outcomes::compare(
-        seen,
-        races,
-        due,
-        test_memory::untouched(&lower) && test_memory::untouched(&higher),
-    );
+    let races = answers::races_answer(file, &mut table, &mut lists, [20, 20, 20]);
+    seen.compare(rows, due.into(), test_memory::untouched(&table));
+    seen.compare(races, due.into(), lists.untouched_from(0));
 }
 
-fn refused_runs(seen: &mut [u64; SEEN], file: &[u8], due: Answer) {
-    let mut first = [0u16; 20];
-    let mut second = [0u16; 20];
-    test_memory::fill(&mut first);
-    test_memory::fill(&mut second);
-    let runs = answers::runs_answer(file, 0, 1, &mut first, 20, &mut second, 20);
-    outcomes::compare(seen, answers::order_answer(file, 0, 1), due, true);
-    outcomes::compare(
-        seen,
-        runs,
-        due,
-        test_memory::untouched(&first) && test_memory::untouched(&second),
-    );
+fn refused_runs(seen: &mut Seen, file: &[u8], due: Due) {
+    let mut runs = TwoLists::<20>::filled();
+    let answer = answers::runs_answer(file, 0, 1, &mut runs, [20, 20]);
+    seen.compare(Some(answers::order_answer(file, 0, 1)), due.into(), true);
+    seen.compare(answer, due.into(), runs.untouched_from(0));
 }
 
-fn refused_tidy(seen: &mut [u64; SEEN], file: &[u8], due: Answer) {
+fn refused_tidy(seen: &mut Seen, file: &[u8], due: Due) {
     let mut output = [0u8; 20];
-    test_memory::fill_bytes(&mut output);
+    test_memory::fill(&mut output);
     let canonical = answers::canonical_answer(file, &mut output, 20);
-    outcomes::compare(
-        seen,
-        canonical,
-        due,
-        test_memory::holds_bytes(&output, &output, 0),
-    );
+    seen.compare(canonical, due.into(), test_memory::untouched(&output));
 }
 
 // A refused file is refused by every call, and nothing is written.
-pub fn refused_calls(seen: &mut [u64; SEEN], file: &[u8], due: Answer) {
+pub fn refused_calls(seen: &mut Seen, file: &[u8], due: Due) {
     refused_lists(seen, file, due);
     refused_runs(seen, file, due);
     refused_tidy(seen, file, due);

@@ -1,8 +1,10 @@
 // The pair order and the two runs on a large trace, compared with the rows of its table and with runs step by step.
 #![tactic(auto)]
 
-use large_rows::TABLE;
-use outcomes::{Answer, SEEN};
+use large_rows::Rows;
+use outcomes::{Due, Kind, Question, Seen};
+use std::cmp::Ordering;
+use test_memory::TwoLists;
 
 // Space for a run.
 const RUN: usize = 1030;
@@ -12,168 +14,112 @@ const PAIRS: usize = 8;
 
 // Does a stand in the list, and b not before it?
 fn stands_first(list: &[u16], a: usize, b: usize) -> bool {
-    for i in 0..list.len() {
-        let x = test_memory::operation(list[i]);
-        if x == a {
-            return true;
-        }
-        if x == b {
-            return false;
-        }
+    match list.iter().map(|x| usize::from(*x)).find(|x| *x == a || *x == b) {
+        Some(x) => x == a,
+        None => false,
     }
-    false
 }
 
 // Does the buffer start with the run of n operations that holds b back, with a before b, and then hold what was there?
 fn run_holds(file: &[u8], n: usize, a: usize, b: usize, buffer: &[u16]) -> bool {
-    if buffer.len() < n || !test_memory::holds(buffer, buffer, n) {
-        return false;
+    match buffer.get(..n) {
+        Some(run) => {
+            test_memory::untouched_from(buffer, n)
+                && step_by_step::is_held_back_run(file, run, b)
+                && stands_first(run, a, b)
+        }
+        None => false,
     }
-    let run = &buffer[0..n];
-    step_by_step::is_held_back_run(file, run, b) && stands_first(run, a, b)
 }
 
-// What is due from the two runs in buffers of such sizes, where the order is known.
-fn runs_due(n: usize, order: u32, sizes: [usize; 2]) -> Answer {
-    if order != 0 {
-        return outcomes::refusal(14, 0);
+// What is due from the two runs of n operations in buffers of such sizes, where the order is known.
+fn runs_due(n: usize, order: Option<Ordering>, sizes: [usize; 2]) -> Due {
+    if order.is_some() {
+        return Err(Question::Unordered.at(0));
     }
     if sizes[0] < n || sizes[1] < n {
-        return outcomes::refusal(15, 0);
+        return Err(Question::RunSpace.at(0));
     }
-    outcomes::success([test_memory::number(n), 0, 0, 0])
-}
-
-// Are the buffers as is due after the two runs of n operations?
-fn buffers_hold<'a>(
-    file: &[u8],
-    n: usize,
-    a: usize,
-    b: usize,
-    refused: bool,
-    first: &'a [u16],
-    second: &'a [u16],
-) -> bool {
-    if refused {
-        return test_memory::untouched(first) && test_memory::untouched(second);
-    }
-    run_holds(file, n, a, b, first) && run_holds(file, n, b, a, second)
+    Ok([test_memory::number(n), 0, 0, 0])
 }
 
 // A size that just fits n numbers, that is larger, or now and then too small.
 fn room(n: usize, way: usize) -> usize {
-    if way % 5 == 4 {
-        return test_memory::less_one(n);
+    match way % 5 {
+        4 => n.saturating_sub(1),
+        more => n.saturating_add(more),
     }
-    test_memory::more(n, way % 5 % 4)
 }
 
 // The two runs of a and b, whose order is known.
-fn runs_call(seen: &mut [u64; SEEN], file: &[u8], n: usize, a: usize, b: usize, order: u32) {
-    let mut first = [0u16; RUN];
-    let mut second = [0u16; RUN];
-    test_memory::fill(&mut first);
-    test_memory::fill(&mut second);
+fn runs_call(seen: &mut Seen, file: &[u8], a: usize, b: usize, order: Option<Ordering>) {
+    let n = plain_file::operations(file);
+    let mut runs = TwoLists::<RUN>::filled();
     let x = test_memory::number(a);
     let y = test_memory::number(b);
     let sizes = [room(n, a), room(n, b)];
-    let answer = answers::runs_answer(file, x, y, &mut first, sizes[0], &mut second, sizes[1]);
+    let answer = answers::runs_answer(file, x, y, &mut runs, sizes);
     let due = runs_due(n, order, sizes);
-    let memory = buffers_hold(file, n, a, b, due.number != 0, &first, &second);
-    outcomes::compare(seen, answer, due, memory);
-    outcomes::count(seen, outcomes::STEPS, outcomes::value(due, 0) as u64);
-    outcomes::count(seen, outcomes::STEPS, outcomes::value(due, 0) as u64);
-}
-
-fn count_order(seen: &mut [u64; SEEN], file: &[u8], order: u32, a: usize, b: usize) {
-    let apart = plain_file::worker_of(file, a) != plain_file::worker_of(file, b);
-    outcomes::note_order(seen, order, apart, plain_file::conflict(file, a, b));
+    let memory = match due {
+        Ok(_) => run_holds(file, n, a, b, &runs.first) && run_holds(file, n, b, a, &runs.second),
+        Err(_) => runs.untouched_from(0),
+    };
+    seen.compare(answer, due.into(), memory);
+    if due.is_ok() {
+        seen.count(Kind::Steps, 2 * n as u64);
+    }
 }
 
 // The order of a pair, by the largest runs, by the rows and by the call, and its two runs.
-fn pair_call(
-    seen: &mut [u64; SEEN],
-    file: &[u8],
-    table: &[u16; TABLE],
-    rank: &[usize; 1024],
-    a: usize,
-    b: usize,
-) {
-    let n = plain_file::operations(file);
+fn pair_call(seen: &mut Seen, file: &[u8], rows: &Rows<'_>, a: usize, b: usize) {
     let answer = answers::order_answer(file, test_memory::number(a), test_memory::number(b));
     if a == b {
-        outcomes::compare(seen, answer, outcomes::refusal(13, 0), true);
+        let due = Err(Question::Different.at(0));
+        seen.compare(Some(answer), due.into(), true);
         return;
     }
     let order = step_by_step::order_of(file, a, b);
-    let by_rows = large_rows::order_by_rows(file, table, rank, a, b);
-    outcomes::compare(
-        seen,
-        answer,
-        outcomes::success([order, 0, 0, 0]),
-        by_rows == order,
-    );
-    count_order(seen, file, order, a, b);
-    runs_call(seen, file, n, a, b, order);
+    let due = Ok([outcomes::order_value(order), 0, 0, 0]);
+    seen.compare(Some(answer), due.into(), rows.order(a, b) == order);
+    let apart = plain_file::worker_of(file, a) != plain_file::worker_of(file, b);
+    seen.note_order(order, apart, plain_file::conflict(file, a, b));
+    runs_call(seen, file, a, b, order);
 }
 
-// The first operation from b on, going round, that is another than a and in conflict with it; a where there is none.
-fn partner(file: &[u8], a: usize, b: usize) -> usize {
+// The first operation from b on, going round, that is another than a and in conflict with it, if there is one.
+fn partner(file: &[u8], a: usize, b: usize) -> Option<usize> {
     let n = plain_file::operations(file);
-    for i in 0..n {
-        let x = (b % 1024 + i) % n;
-        if x != a && plain_file::conflict(file, a, x) {
-            return x;
-        }
-    }
-    a
+    (0..n).map(|i| (b % 1024 + i) % n).find(|x| *x != a && plain_file::conflict(file, a, *x))
 }
 
-// The first operation from a on, going round, that has a partner; the operation count where there is none.
-fn with_partner(file: &[u8], a: usize) -> usize {
+// The first operation from a on, going round, that has a partner, if there is one.
+fn with_partner(file: &[u8], a: usize) -> Option<usize> {
     let n = plain_file::operations(file);
-    for i in 0..n {
-        let x = (a % 1024 + i) % n;
-        if partner(file, x, 0) != x {
-            return x;
-        }
-    }
-    n
+    (0..n).map(|i| (a % 1024 + i) % n).find(|x| partner(file, *x, 0).is_some())
 }
 
 // A pair in conflict, where there is one.
-fn conflict_call(
-    seen: &mut [u64; SEEN],
-    file: &[u8],
-    table: &[u16; TABLE],
-    rank: &[usize; 1024],
-    from: usize,
-    to: usize,
-) {
-    let a = with_partner(file, from);
-    if a < plain_file::operations(file) {
-        pair_call(seen, file, table, rank, a, partner(file, a, to));
+fn conflict_call(seen: &mut Seen, file: &[u8], rows: &Rows<'_>, from: usize, to: usize) {
+    if let Some(a) = with_partner(file, from)
+        && let Some(b) = partner(file, a, to)
+    {
+        pair_call(seen, file, rows, a, b);
     }
 }
 
 // Pairs of any operations, and pairs in conflict.
-pub fn pair_calls(
-    seen: &mut [u64; SEEN],
-    file: &[u8],
-    table: &[u16; TABLE],
-    rank: &[usize; 1024],
-    seed: u64,
-) {
+pub fn pair_calls(seen: &mut Seen, file: &[u8], rows: &Rows<'_>, seed: u64) {
     let n = plain_file::operations(file) as u64;
     let past = answers::order_answer(file, n as u32, 0);
+    let past_due = Err(Question::InTrace.at(0));
+    seen.compare(Some(past), past_due.into(), true);
     let mut state = seed;
-    outcomes::compare(seen, past, outcomes::refusal(12, 0), true);
-    for i in 0..PAIRS {
+    for _ in 0..PAIRS {
         let other_state = random_files::next(state);
         let a = random_files::below(state, n) as usize;
         let b = random_files::below(other_state, n) as usize;
-        pair_call(seen, file, table, rank, a, b);
-        conflict_call(seen, file, table, rank, a, b);
+        pair_call(seen, file, rows, a, b);
+        conflict_call(seen, file, rows, a, b);
         state = random_files::next(other_state);
     }
 }

@@ -1,118 +1,103 @@
 // The rows of a large trace's table compared with runs step by step, and the orders and races that the rows say.
 #![tactic(auto)]
 
-use outcomes::SEEN;
+use outcomes::{Kind, Seen};
+use std::cmp::Ordering;
+use step_by_step::Run;
+use test_memory::TwoLists;
 
 // Space for a table, a little longer than the largest trace needs.
 pub const TABLE: usize = 16390;
 
-// The rows
-
-fn entry(table: &[u16; TABLE], i: usize) -> usize {
-    test_memory::operation(table[i % TABLE])
-}
-
-// Does row k count the operations of the largest run without k?
-fn row_holds(file: &[u8], table: &[u16; TABLE], k: usize) -> bool {
-    let p = plain_file::workers(file);
-    let mut next = [0usize; 16];
-    step_by_step::largest_without(file, k, &mut next);
-    for q in 0..p {
-        if entry(table, test_memory::product(k, p) + q) != step_by_step::of_worker(file, &next, q) {
-            return false;
-        }
-    }
-    true
-}
-
 // How many rows are compared.
 const SOME: usize = 6;
 
-pub fn compare_rows(seen: &mut [u64; SEEN], file: &[u8], table: &[u16; TABLE], seed: u64) {
-    let count = plain_file::operations(file) as u64;
-    let mut state = seed;
-    for i in 0..SOME {
-        let k = random_files::below(state / 4096, count) as usize;
-        outcomes::count(seen, outcomes::ROWS, 1);
-        outcomes::expect(seen, row_holds(file, table, k));
-        state = random_files::next(state);
-    }
+// A trace with its table, and for each operation its rank.
+#[derive(Clone, Copy)]
+pub struct Rows<'a> {
+    file: &'a [u8],
+    table: &'a [u16; TABLE],
+    rank: [usize; 1024],
 }
 
-// The orders that the rows say
-
-// For each operation its rank.
-pub fn fill_ranks(file: &[u8], rank: &mut [usize; 1024]) {
+fn ranks_of(file: &[u8]) -> [usize; 1024] {
+    let mut rank = [0; 1024];
     let mut counts = [0usize; 16];
     for x in 0..plain_file::operations(file) {
         let q = plain_file::worker_of(file, x) % 16;
-        counts[q] = counts[q] % 1024 + 1;
+        counts[q] = counts[q].saturating_add(1);
         rank[x % 1024] = counts[q];
     }
+    rank
 }
 
-// Is b in the largest run without a, as row a counts it?
-fn is_counted(file: &[u8], table: &[u16; TABLE], rank: &[usize; 1024], a: usize, b: usize) -> bool {
-    let q = plain_file::worker_of(file, b);
-    rank[b % 1024]
-        <= entry(
+impl<'a> Rows<'a> {
+    pub fn new(file: &'a [u8], table: &'a [u16; TABLE]) -> Self {
+        Rows {
+            file,
             table,
-            test_memory::product(a, plain_file::workers(file)) + q,
-        )
-}
-
-// The order of a and b: 1 where a is certain before b, 2 where b is certain before a, else 0.
-pub fn order_by_rows(
-    file: &[u8],
-    table: &[u16; TABLE],
-    rank: &[usize; 1024],
-    a: usize,
-    b: usize,
-) -> u32 {
-    if !is_counted(file, table, rank, a, b) {
-        return 1;
+            rank: ranks_of(file),
+        }
     }
-    if !is_counted(file, table, rank, b, a) {
-        return 2;
+
+    // Entry q of row k.
+    fn entry(&self, k: usize, q: usize) -> usize {
+        let start = test_memory::product(k, plain_file::workers(self.file));
+        usize::from(self.table[(start + q % 256) % TABLE])
     }
-    0
-}
 
-// The races
-
-fn is_race(file: &[u8], table: &[u16; TABLE], rank: &[usize; 1024], a: usize, b: usize) -> bool {
-    plain_file::conflict(file, a, b) && order_by_rows(file, table, rank, a, b) == 0
-}
-
-// Puts the races of a with higher operations into the two lists, from place n on; how many there are then.
-fn put_races_of(
-    file: &[u8],
-    table: &[u16; TABLE],
-    rank: &[usize; 1024],
-    a: usize,
-    n: usize,
-    lower: &mut [u16],
-    higher: &mut [u16],
-) -> usize {
-    let mut count = n;
-    for b in a % 1024 + 1..plain_file::operations(file) {
-        let race = is_race(file, table, rank, a, b);
-        count = test_memory::put_race(race, a, b, count, lower, higher);
+    // Does row k count the operations of the largest run without k?
+    fn row_holds(&self, k: usize) -> bool {
+        let run = Run::largest_without(self.file, k);
+        (0..plain_file::workers(self.file)).all(|q| self.entry(k, q) == run.of_worker(q))
     }
-    count
-}
 
-// The races, ascending by lower, then higher operation, as far as the lists go; how many there are.
-pub fn races_by_rows(
-    file: &[u8],
-    table: &[u16; TABLE],
-    rank: &[usize; 1024],
-    lower: &mut [u16],
-    higher: &mut [u16],
-) -> usize {
-    let mut count: usize = 0;
-    for a in 0..plain_file::operations(file) {
-        count = put_races_of(file, table, rank, a, count, lower, higher);
+    pub fn compare(&self, seen: &mut Seen, seed: u64) {
+        let count = plain_file::operations(self.file) as u64;
+        let mut state = seed;
+        for _ in 0..SOME {
+            let k = random_files::below(state / 4096, count) as usize;
+            seen.count(Kind::Rows, 1);
+            seen.expect(self.row_holds(k));
+            state = random_files::next(state);
+        }
     }
-    count
+
+    // Is b in the largest run without a, as row a counts it?
+    fn is_counted(&self, a: usize, b: usize) -> bool {
+        self.rank[b % 1024] <= self.entry(a, plain_file::worker_of(self.file, b))
+    }
+
+    // The order of a and b that the rows say.
+    pub fn order(&self, a: usize, b: usize) -> Option<Ordering> {
+        if !self.is_counted(a, b) {
+            return Some(Ordering::Less);
+        }
+        if !self.is_counted(b, a) {
+            return Some(Ordering::Greater);
+        }
+        None
+    }
+
+    fn is_race(&self, a: usize, b: usize) -> bool {
+        plain_file::conflict(self.file, a, b) && self.order(a, b).is_none()
+    }
+
+    // Puts the races of a with higher operations into the lists, from race n on; how many there are then.
+    fn put_races_of<const N: usize>(&self, a: usize, n: usize, lists: &mut TwoLists<N>) -> usize {
+        let mut count = n;
+        for b in a.saturating_add(1)..plain_file::operations(self.file) {
+            if self.is_race(a, b) {
+                lists.put(count, a, b);
+                count = count.saturating_add(1);
+            }
+        }
+        count
+    }
+
+    // Puts the races, ascending by lower, then higher operation, as far as the lists go; how many there are.
+    pub fn put_races<const N: usize>(&self, lists: &mut TwoLists<N>) -> usize {
+        let operations = 0..plain_file::operations(self.file);
+        operations.fold(0, |count, a| self.put_races_of(a, count, lists))
+    }
 }

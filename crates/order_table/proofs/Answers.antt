@@ -5,12 +5,12 @@ use mathlib.Core.Logic.{◌↔◌}
 use mathlib.Core.Path.{◌≡◌, refl, ◌∙◌}
 use Prim.Native.Nat.{ℕ, ◌*◌, ◌<◌, ◌≤◌}
 use lib.ListN.{length}
-use Rattle.basics.proofs.Booleans.{zero_one}
 use Rattle.trace.specs.Premises.{HoldsTrace}
 use Rattle.trace.specs.Refusals.{by_earlier, by_this}
 use Rattle.trace.specs.Reading.{Reading, refused, trace_of}
 use Rattle.trace.specs.Trace.{size}
 use Rattle.trace.proofs.Outcomes.{tells-refusals, outcome-refused, outcome-reads, refuses-nothing, same-counts}
+use Rattle.std.specs.Prelude.{Ok}
 use Rattle.trace.specs.Answer.{Refused, counts_of}
 use Rattle.order_table.specs.Table.{Filled}
 use Rattle.accept.specs.Acceptance.{AcceptedTrace, accept_answer}
@@ -42,13 +42,13 @@ module _ {bytes : List ℕ} {p n : ℕ} (a : AcceptedTrace bytes (trace_of bytes
     numbers = rw (a.1.workers, a.1.count)
 
     pub call-filled : n * p ≤ length lent → {now : List ℕ} → now ≡ written_over (order_table (trace_of bytes)) lent
-        → TableCall bytes lent (Filled p n) now
+        → TableCall bytes lent (Ok (counts_of (trace_of bytes))) now
     call-filled l i =
         let room : AcceptedTable bytes (length lent) (trace_of bytes)
         = record { accepted = a.0; table_holds = rw numbers l } in
         let passed = ((table-comes-out bytes (length lent)).passes (trace_of bytes)).1 room in
         let c = call_by bytes lent passed in
-        record { answers = rw (a.1.workers, a.1.count) at c.answers; leaves = i ∙ c.leaves }
+        record { answers = c.answers; leaves = i ∙ c.leaves }
 
     pub call-short : length lent < n * p → TableCall bytes lent (Refused 11 0) lent
     call-short l = by-no bytes lent (by_this (trace_of bytes) a.0 (rw numbers l) refl refl)

@@ -1,48 +1,89 @@
-// What a call comes to, as numbers that can be compared; and what was seen, counted.
+// What is due from a call, what a call answers, and what was seen, counted.
 #![tactic(auto)]
 
-// What a call answers: the number 0 and its values, or the number and place of its refusal.
-#[derive(Clone, Copy)]
+use std::cmp::Ordering;
+
+// The questions, by their names in include/mersohki.h; a question's number is its value.
+#[derive(Clone, Copy, PartialEq, Eq)]
+pub enum Question {
+    Header = 1,
+    WorkerCount,
+    OperationCount,
+    FileSize,
+    Mark,
+    Worker,
+    Kind,
+    Event,
+    Cells,
+    CompleteRun,
+    TableSpace,
+    InTrace,
+    Different,
+    Unordered,
+    RunSpace,
+    RaceSpace,
+    OutputSpace,
+}
+
+impl Question {
+    // The refusal by this question.
+    pub fn at(self, place: u32) -> Refusal {
+        Refusal {
+            question: self,
+            place,
+        }
+    }
+}
+
+// The first question whose answer is "no", and its place.
+#[derive(Clone, Copy, PartialEq, Eq)]
+pub struct Refusal {
+    pub question: Question,
+    pub place: u32,
+}
+
+// What is due from a call: its values, or its refusal.
+pub type Due = Result<[u32; 4], Refusal>;
+
+// What a call of the C interface answers: the number 0 and its values, or the number and place of its refusal.
+#[derive(Clone, Copy, PartialEq, Eq)]
 pub struct Answer {
     pub number: u8,
     pub place: u32,
     pub values: [u32; 4],
 }
 
-pub fn answer_of(number: u8, place: u32, values: [u32; 4]) -> Answer {
-    Answer {
-        number: number,
-        place: place,
-        values: values,
+impl Answer {
+    pub fn is_refusal(&self) -> bool {
+        self.number != 0
     }
 }
 
-pub fn refusal(number: u8, place: u32) -> Answer {
-    answer_of(number, place, [0; 4])
+impl From<Due> for Answer {
+    fn from(due: Due) -> Self {
+        match due {
+            Ok(values) => Answer {
+                number: 0,
+                place: 0,
+                values,
+            },
+            Err(Refusal { question, place }) => Answer {
+                number: question as u8,
+                place,
+                values: [0; 4],
+            },
+        }
+    }
 }
 
-pub fn success(values: [u32; 4]) -> Answer {
-    answer_of(0, 0, values)
-}
-
-// Value i, as a size.
-pub fn value(a: Answer, i: usize) -> usize {
-    a.values[i % 4] as usize
-}
-
-// What no call answers.
-pub fn no_answer() -> Answer {
-    refusal(255, 0)
-}
-
-fn same_values(a: [u32; 4], b: [u32; 4]) -> bool {
-    a[0] == b[0] && a[1] == b[1] && a[2] == b[2] && a[3] == b[3]
-}
-
-pub fn same(a: Answer, b: Answer) -> bool {
-    let of_a = a.values;
-    let of_b = b.values;
-    a.number == b.number && a.place == b.place && same_values(of_a, of_b)
+// The order of two operations as a value: 1 where the first is certain before the second, 2 where the second is certain
+// before the first, else 0.
+pub fn order_value(order: Option<Ordering>) -> u32 {
+    match order {
+        Some(Ordering::Less) => 1,
+        Some(Ordering::Greater) => 2,
+        _ => 0,
+    }
 }
 
 // What was seen
@@ -50,100 +91,104 @@ pub fn same(a: Answer, b: Answer) -> bool {
 // Refusals have lower numbers.
 pub const NUMBERS: usize = 30;
 
-// Calls are counted by the number of their refusal, where 0 is success; from FILES on, files by the number by which
-// they are refused, where 0 is accepted; and from KINDS on what the names below say. `conformance` has a label for each
-// kind, in this order.
-pub const FILES: usize = NUMBERS;
-
-pub const KINDS: usize = FILES + NUMBERS;
-
-pub const MISMATCHES: usize = KINDS;
-
-pub const RUNS: usize = KINDS + 1;
-
-pub const COMPLETE: usize = KINDS + 2;
-
-pub const SHARED_EVENTS: usize = KINDS + 3;
-
-// The ordered pairs, of these those of different workers, and of these those in conflict.
-pub const ORDERED: usize = KINDS + 4;
-
-pub const ORDERED_APART: usize = KINDS + 5;
-
-pub const CONFLICTS_ORDERED: usize = KINDS + 6;
-
-pub const UNORDERED: usize = KINDS + 7;
-
-pub const RACES: usize = KINDS + 8;
-
-pub const BEGINNINGS: usize = KINDS + 9;
-
-// Of large traces: operations, rows of tables, steps of runs, and traces told in two file orders.
-pub const OPERATIONS: usize = KINDS + 10;
-
-pub const ROWS: usize = KINDS + 11;
-
-pub const STEPS: usize = KINDS + 12;
-
-pub const SHUFFLED: usize = KINDS + 13;
-
-// Of typed cases: lines, and looks at lent memory.
-pub const LINES: usize = KINDS + 14;
-
-pub const LOOKS: usize = KINDS + 15;
-
-pub const SEEN: usize = KINDS + 16;
-
-fn add(seen: &mut [u64; SEEN], at: usize, by: u64) {
-    seen[at % SEEN] = seen[at % SEEN] % 1000000000000 + by % 1000000000000;
+// What is counted beside calls and files, in the order in which `conformance` prints it. Pairs are ordered, of these
+// some of different workers, and of these some in conflict; of large traces operations, rows of tables, steps of runs,
+// and traces told in two file orders are counted; of typed cases lines, and looks at lent memory.
+#[derive(Clone, Copy)]
+pub enum Kind {
+    Mismatches,
+    Runs,
+    Complete,
+    SharedEvents,
+    Ordered,
+    OrderedApart,
+    ConflictsOrdered,
+    Unordered,
+    Races,
+    Beginnings,
+    Operations,
+    Rows,
+    Steps,
+    Shuffled,
+    Lines,
+    Looks,
 }
 
-// Counts what is in the list above; what is not is a mismatch.
-pub fn count(seen: &mut [u64; SEEN], at: usize, by: u64) {
-    add(seen, if at < SEEN { at } else { MISMATCHES }, by);
+pub const KINDS: usize = 16;
+
+// Calls by the number of their refusal, and files by the number by which they are refused, where 0 is success; and how
+// many there were of each kind.
+#[derive(Clone, Copy)]
+pub struct Seen {
+    pub calls: [u64; NUMBERS],
+    pub files: [u64; NUMBERS],
+    pub kinds: [u64; KINDS],
 }
 
-// Counts what must hold, and does not.
-pub fn expect(seen: &mut [u64; SEEN], holds: bool) {
-    if !holds {
-        add(seen, MISMATCHES, 1);
+// Counts at a place; is there such a place?
+fn count_at(counts: &mut [u64], at: usize, by: u64) -> bool {
+    match counts.get_mut(at) {
+        Some(count) => {
+            *count = count.saturating_add(by);
+            true
+        }
+        None => false,
     }
 }
 
-// Counts a call for which `number` was due, and a mismatch where not all was as due.
-pub fn note(seen: &mut [u64; SEEN], number: u8, holds: bool) {
-    let known = (number as usize) < NUMBERS;
-    if known {
-        add(seen, number as usize, 1);
+impl Seen {
+    pub fn nothing() -> Self {
+        Seen {
+            calls: [0; NUMBERS],
+            files: [0; NUMBERS],
+            kinds: [0; KINDS],
+        }
     }
-    expect(seen, known && holds);
-}
 
-// Counts a call: its answer, what was due, and whether lent memory is as due.
-pub fn compare(seen: &mut [u64; SEEN], given: Answer, due: Answer, memory: bool) {
-    note(seen, due.number, memory && same(given, due));
-}
-
-// Counts a file that is refused by that number.
-pub fn note_file(seen: &mut [u64; SEEN], number: u8) {
-    let known = (number as usize) < NUMBERS;
-    if known {
-        add(seen, FILES + number as usize, 1);
+    pub fn mismatches(&self) -> u64 {
+        self.kinds[Kind::Mismatches as usize]
     }
-    expect(seen, known);
-}
 
-// Counts a pair of operations with its order, and whether they are of different workers and in conflict.
-pub fn note_order(seen: &mut [u64; SEEN], order: u32, apart: bool, conflict: bool) {
-    if order == 0 {
-        add(seen, UNORDERED, 1);
-        return;
+    pub fn count(&mut self, kind: Kind, by: u64) {
+        count_at(&mut self.kinds, kind as usize, by);
     }
-    add(seen, ORDERED, 1);
-    add(seen, ORDERED_APART, if apart { 1 } else { 0 });
-    add(
-        seen,
-        CONFLICTS_ORDERED,
-        if apart && conflict { 1 } else { 0 },
-    );
+
+    // Counts what must hold, and does not.
+    pub fn expect(&mut self, holds: bool) {
+        if !holds {
+            self.count(Kind::Mismatches, 1);
+        }
+    }
+
+    // Counts a call for which `number` was due, and a mismatch where not all was as due.
+    pub fn note(&mut self, number: u8, holds: bool) {
+        let known = count_at(&mut self.calls, number as usize, 1);
+        self.expect(known && holds);
+    }
+
+    // Counts a call: its answer, if it was made, what was due, and whether lent memory is as due.
+    pub fn compare(&mut self, given: Option<Answer>, due: Answer, memory: bool) {
+        self.note(due.number, memory && given == Some(due));
+    }
+
+    // Counts a file: that it is accepted, or by which question it is refused.
+    pub fn note_file(&mut self, reading: Due) {
+        let known = count_at(&mut self.files, Answer::from(reading).number as usize, 1);
+        self.expect(known);
+    }
+
+    // Counts a pair of operations with its order, and whether they are of different workers and in conflict.
+    pub fn note_order(&mut self, order: Option<Ordering>, apart: bool, conflict: bool) {
+        if order.is_none() {
+            self.count(Kind::Unordered, 1);
+            return;
+        }
+        self.count(Kind::Ordered, 1);
+        if apart {
+            self.count(Kind::OrderedApart, 1);
+        }
+        if apart && conflict {
+            self.count(Kind::ConflictsOrdered, 1);
+        }
+    }
 }

@@ -1,7 +1,9 @@
 // Files of random traces of up to eight operations and four workers, damaged files, and random lists, for tests.
 #![tactic(auto)]
 
-ghost use Rattle.std.specs.Prelude.{◌≤◌};
+ghost use Rattle.std.specs.Prelude.{◌<◌, ◌≤◌};
+
+use test_files::{Fields, Form, Kind};
 
 // The next random number: a multiplicative generator, whose state is from 1 to 2,147,483,646.
 pub fn next(seed: u64) -> u64 {
@@ -18,42 +20,43 @@ pub fn below(seed: u64, bound: u64) -> u32
     0
 }
 
-// One of two kinds.
-fn either_of(kinds: [u32; 2], seed: u64) -> u32 {
-    kinds[below(seed, 2) as usize % 2]
+// One of some choices.
+pub fn one_of<T: Copy, const N: usize>(choices: [T; N], seed: u64) -> T
+    requires { 0 < N }
+{
+    choices[below(seed, N as u64) as usize % N]
 }
 
-// Any kind.
-fn any_kind(seed: u64) -> u32 {
-    let kinds = [
-        test_files::POST,
-        test_files::WAIT,
-        test_files::READ,
-        test_files::WRITE,
-    ];
-    kinds[below(seed, 4) as usize % 4]
+// How the kinds of a trace are drawn.
+#[derive(Clone, Copy)]
+enum Way {
+    Alike,
+    Events,
+    Accesses,
+    Writes,
+    InTurn,
+}
+
+// How a trace is drawn.
+#[derive(Clone, Copy)]
+struct Style {
+    workers: u32,
+    pool: u32,
+    way: Way,
 }
 
 // The kinds of a trace: all alike, mostly Posts and Waits, mostly accesses, mostly Writes and Posts; or one worker
 // writes and posts what the next waits for and reads.
-fn kind_of(style: u32, worker: u32, seed: u64) -> u32 {
-    let often = below(seed / 64, 2);
-    if style == 4 && worker % 2 == 1 {
-        return either_of([test_files::READ, test_files::WAIT], seed);
+fn kind_of(way: Way, worker: u32, seed: u64) -> Kind {
+    let often = below(seed / 64, 2) != 0;
+    match way {
+        Way::InTurn if worker % 2 == 1 => one_of([Kind::Read, Kind::Wait], seed),
+        Way::InTurn => one_of([Kind::Write, Kind::Post], seed),
+        Way::Events if often => one_of([Kind::Wait, Kind::Post], seed),
+        Way::Accesses if often => one_of([Kind::Write, Kind::Read], seed),
+        Way::Writes if often => one_of([Kind::Write, Kind::Post], seed),
+        _ => one_of([Kind::Post, Kind::Wait, Kind::Read, Kind::Write], seed),
     }
-    if style == 4 {
-        return either_of([test_files::WRITE, test_files::POST], seed);
-    }
-    if often == 0 || style == 0 {
-        return any_kind(seed);
-    }
-    if style == 1 {
-        return either_of([test_files::WAIT, test_files::POST], seed);
-    }
-    if style == 2 {
-        return either_of([test_files::WRITE, test_files::READ], seed);
-    }
-    either_of([test_files::WRITE, test_files::POST], seed)
 }
 
 // A trace has one event or two, which lie in one of the four words or in two.
@@ -80,58 +83,44 @@ fn length_of(cell: u32, seed: u64) -> u32 {
     below(seed / 64, 4) + 1
 }
 
-fn random_operation(file: &mut [u8], k: usize, workers: u32, pool: u32, style: u32, seed: u64) {
+fn random_operation(style: Style, seed: u64) -> Fields {
     let second = next(seed);
     let third = next(second);
     let fourth = next(third);
-    let worker = below(seed, workers as u64);
-    let kind = kind_of(style, worker, second);
-    if kind == test_files::POST || kind == test_files::WAIT {
-        test_files::put_operation(file, k, worker, kind, event_of(pool, third), 0);
-        return;
+    let worker = below(seed, style.workers as u64);
+    let kind = kind_of(style.way, worker, second);
+    match kind {
+        Kind::Post | Kind::Wait => Fields::of_event(worker, kind, event_of(style.pool, third)),
+        Kind::Read | Kind::Write => {
+            let cell = cell_of(style.pool, third);
+            Fields::of_access(worker, kind, cell, length_of(cell, fourth))
+        }
     }
-    if kind == test_files::READ || kind == test_files::WRITE {
-        let cell = cell_of(pool, third);
-        test_files::put_operation(file, k, worker, kind, cell, length_of(cell, fourth));
-        return;
-    }
-    // a kind of which nothing is known here, so that it shows
-    test_files::put_operation(file, k, worker, 0, 0, 0);
 }
 
-fn random_operations(
-    file: &mut [u8],
-    count: usize,
-    workers: u32,
-    pool: u32,
-    style: u32,
-    seed: u64,
-) {
+fn random_operations(file: &mut [u8], count: usize, style: Style, seed: u64) {
     let mut state = seed;
     for k in 0..count {
-        random_operation(file, k, workers, pool, style, state);
+        test_files::put_operation(file, k, random_operation(style, state));
         state = next(next(next(next(next(state)))));
     }
 }
 
 // Writes the file of a random trace in a form; how many bytes it has.
-pub fn random_trace(file: &mut [u8], form: u8, seed: u64) -> usize {
+pub fn random_trace(file: &mut [u8], form: Form, seed: u64) -> usize {
     let second = next(seed);
     let third = next(second);
     let fourth = next(third);
-    let drawn = below(seed, 12);
-    let count = if drawn < 8 { drawn } else { 8 };
-    let workers = below(second, 4) + 1;
-    test_files::put_header(file, form, workers, count);
-    random_operations(
-        file,
-        count as usize,
-        workers,
-        below(third, 60),
-        below(third / 64, 5),
-        next(fourth),
-    );
-    test_files::file_size(form, count as usize)
+    let count = below(seed, 12).min(8);
+    let ways = [Way::Alike, Way::Events, Way::Accesses, Way::Writes, Way::InTurn];
+    let style = Style {
+        workers: below(second, 4) + 1,
+        pool: below(third, 60),
+        way: one_of(ways, third / 64),
+    };
+    test_files::put_header(file, form, style.workers, count);
+    random_operations(file, count as usize, style, next(fourth));
+    form.file_size(count as usize)
 }
 
 fn random_byte(seed: u64) -> u32 {
@@ -139,18 +128,17 @@ fn random_byte(seed: u64) -> u32 {
     if below(seed, 2) == 0 {
         return below(seed / 64, 256);
     }
-    bytes[below(seed / 64, 8) as usize % 8]
+    one_of(bytes, seed / 64)
 }
 
 // A place in the file's header.
 fn in_header(file: &[u8], at: usize) -> usize
     ensures { result ≤ 100 }
 {
-    let size = test_files::record_size(test_files::form_of(file));
-    if 0 < size {
-        return at % size % 100;
+    match test_files::form_of(file) {
+        Some(Form::Plain) => at % 10,
+        None => 0,
     }
-    0
 }
 
 // Damages the bytes of a file of `size` bytes; how many of them are left, or how many there are with more added. Most
@@ -158,29 +146,22 @@ fn in_header(file: &[u8], at: usize) -> usize
 pub fn damaged(file: &mut [u8], size: usize, seed: u64) -> usize {
     let second = next(seed);
     let third = next(second);
-    let way = below(seed, 8);
     let at = below(second, size as u64) as usize;
-    if way == 0 {
-        return at;
+    match below(seed, 8) {
+        0 => return at,
+        1 => return size % 128 + at % 10 + 1,
+        2 => test_files::put_byte(file, 2, random_byte(third)),
+        3 => {
+            let to = 4 + in_header(file, at) % 8;
+            test_files::put_byte(file, to, random_byte(third));
+        }
+        4 => {
+            let first = in_header(file, at);
+            test_files::put_byte(file, first, random_byte(third));
+            test_files::put_byte(file, at, random_byte(next(third)));
+        }
+        _ => test_files::put_byte(file, at, random_byte(third)),
     }
-    if way == 1 {
-        return size % 128 + at % 10 + 1;
-    }
-    if way == 2 {
-        test_files::put_byte(file, 2, random_byte(third));
-        return size;
-    }
-    if way == 3 {
-        test_files::put_byte(file, 4 + in_header(file, at) % 8, random_byte(third));
-        return size;
-    }
-    if way == 4 {
-        let first = in_header(file, at);
-        test_files::put_byte(file, first, random_byte(third));
-        test_files::put_byte(file, at, random_byte(next(third)));
-        return size;
-    }
-    test_files::put_byte(file, at, random_byte(third));
     size
 }
 
@@ -190,8 +171,8 @@ pub fn small_number(seed: u64) -> u16 {
 
 pub fn fill_list(list: &mut [u16], seed: u64) {
     let mut state = seed;
-    for i in 0..list.len() {
-        list[i] = small_number(state);
+    for x in list {
+        *x = small_number(state);
         state = next(state);
     }
 }

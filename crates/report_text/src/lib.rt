@@ -28,7 +28,9 @@ fn put_race_line(output: &mut [u8], at: usize, lower: u16, higher: u16) -> usize
     ensures { Placed output.old at (race_line (pair lower higher)) result output.new
         × (result ≤ at + 17) }
 {
-    text::put_pair_line(output, at, b"race ", lower as u32, b" ", higher as u32)
+    let lower = u32::from(lower);
+    let higher = u32::from(higher);
+    text::put_pair_line(output, at, b"race ", lower, b" ", higher)
 }
 
 // Places a line for each of the first `count` races from `at` on, and answers where they end.
@@ -45,10 +47,8 @@ fn put_race_lines(
         × (result ≤ at + 17 * count) }
 {
     let mut end = at;
-    let mut i: usize = 0;
-    while i < count {
+    for i in 0..count {
         end = put_race_line(output, end, lower[i], higher[i]);
-        i += 1;
     }
     end
 }
@@ -67,7 +67,8 @@ fn put_listing(
         (listing workers operations (take count (race_records lower.now higher.now)) count) result
         output.new }
 {
-    let first = text::put_pair_line(output, 0, b"ops ", operations, b" workers ", workers as u32);
+    let workers = u32::from(workers);
+    let first = text::put_pair_line(output, 0, b"ops ", operations, b" workers ", workers);
     let last = put_race_lines(output, first, lower, higher, count as usize);
     text::put_count_line(output, last, b"races ", count)
 }

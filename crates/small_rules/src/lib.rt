@@ -1,125 +1,119 @@
 // What may follow what in a run of a trace of up to eight operations, by document 01's definition of a run.
 #![tactic(auto)]
 
-ghost use Rattle.std.specs.Prelude.{◌≤◌};
+use std::array;
+use test_files::Kind;
 
-// A set of operations has a bit for each: whether x is in it.
-pub fn has(set: u8, x: usize) -> bool {
-    (set >> (x % 8)) % 2 == 1
+// A set of operations: a bit for each.
+#[derive(Clone, Copy, PartialEq, Eq)]
+pub struct Set(pub u8);
+
+impl Set {
+    pub const EMPTY: Set = Set(0);
+
+    pub fn has(self, x: usize) -> bool {
+        (self.0 >> (x % 8)) % 2 == 1
+    }
+
+    pub fn with(self, x: usize) -> Set {
+        Set(self.0 | 1 << (x % 8))
+    }
+
+    pub fn without(self, x: usize) -> Set {
+        Set(self.0 & !(1 << (x % 8)))
+    }
+
+    // Is each operation of the other set in this one?
+    pub fn contains(self, other: Set) -> bool {
+        other.0 & self.0 == other.0
+    }
+
+    // Have the two sets a common operation?
+    pub fn meets(self, other: Set) -> bool {
+        self.0 & other.0 != 0
+    }
+
+    pub fn size(self) -> u32 {
+        self.0.count_ones()
+    }
 }
 
-pub fn with(set: u8, x: usize) -> u8 {
-    set | 1 << (x % 8)
+// An operation may follow when all of a set are done, and one of another set, where there is one.
+#[derive(Clone, Copy)]
+pub struct Rule {
+    all: Set,
+    pub one_of: Option<Set>,
 }
 
-// What may follow what. Operation x may follow when all operations of the set all[x] are done, and one of each of the
-// sets one_of[8 x + j], for j below sets[x]. `known` says that each operation's rules are among those below.
+impl Rule {
+    fn allows(self, done: Set) -> bool {
+        let has_one = match self.one_of {
+            Some(set) => set.meets(done),
+            None => true,
+        };
+        done.contains(self.all) && has_one
+    }
+}
+
+// What may follow what: the rule of each operation of which one is known.
 #[derive(Clone, Copy)]
 pub struct Rules {
     pub count: usize,
-    pub known: bool,
-    pub all: [u8; 8],
-    pub sets: [u8; 8],
-    pub one_of: [u8; 64],
-}
-
-fn unknown(r: Rules) -> Rules {
-    let mut less = r;
-    less.known = false;
-    less
-}
-
-// The rules with: x needs all of the set.
-fn needs_all(r: Rules, x: usize, set: u8) -> Rules {
-    let mut more = r;
-    more.all[x % 8] = r.all[x % 8] | set;
-    more
-}
-
-// The rules with: x needs one of the set.
-fn needs_one(r: Rules, x: usize, set: u8) -> Rules {
-    let j = r.sets[x % 8];
-    if 8 <= j {
-        return unknown(r);
-    }
-    let mut more = r;
-    more.one_of[x % 8 * 8 + j as usize] = set;
-    more.sets[x % 8] = j + 1;
-    more
+    pub of: [Option<Rule>; 8],
 }
 
 // The earlier operations of x's worker.
-fn earlier(file: &[u8], x: usize) -> u8 {
-    let mut set: u8 = 0;
-    for y in 0..8 {
-        if y < x && plain_file::worker_of(file, y) == plain_file::worker_of(file, x) {
-            set = with(set, y);
-        }
-    }
-    set
+fn earlier(file: &[u8], x: usize) -> Set {
+    let worker = plain_file::worker_of(file, x);
+    (0..8)
+        .filter(|y| *y < x && plain_file::worker_of(file, *y) == worker)
+        .fold(Set::EMPTY, |set, y| set.with(y))
+}
+
+fn is_post_of(file: &[u8], y: usize, event: u32) -> bool {
+    plain_file::kind_of(file, y) == Some(Kind::Post) && plain_file::number_of(file, y) == event
 }
 
 // The Posts of an event.
-fn posts(file: &[u8], count: usize, event: u32) -> u8 {
-    let mut set: u8 = 0;
-    for y in 0..8 {
-        let post = y < count && plain_file::kind_of(file, y) == test_files::POST;
-        if post && plain_file::number_of(file, y) == event {
-            set = with(set, y);
-        }
-    }
-    set
-}
-
-// What x needs by its kind: a Wait a Post of its event, and the others nothing.
-fn with_kind(r: Rules, file: &[u8], x: usize) -> Rules {
-    let kind = plain_file::kind_of(file, x);
-    if kind == test_files::WAIT && plain_file::length_of(file, x) == 0 {
-        return needs_one(r, x, posts(file, r.count, plain_file::number_of(file, x)));
-    }
-    if kind == test_files::POST || kind == test_files::READ || kind == test_files::WRITE {
-        return r;
-    }
-    unknown(r)
-}
-
-pub fn rules_of(file: &[u8]) -> Rules {
+fn posts(file: &[u8], event: u32) -> Set {
     let count = plain_file::operations(file);
-    let mut r = Rules {
-        count: count,
-        known: count <= 8,
-        all: [0; 8],
-        sets: [0; 8],
-        one_of: [0; 64],
+    (0..8)
+        .filter(|y| *y < count && is_post_of(file, *y, event))
+        .fold(Set::EMPTY, |set, y| set.with(y))
+}
+
+// What x needs: the earlier operations of its worker, and by its kind a Wait a Post of its event.
+fn rule_of(file: &[u8], x: usize) -> Option<Rule> {
+    let one_of = match plain_file::kind_of(file, x)? {
+        Kind::Wait if plain_file::length_of(file, x) != 0 => return None,
+        Kind::Wait => Some(posts(file, plain_file::number_of(file, x))),
+        Kind::Post | Kind::Read | Kind::Write => None,
     };
-    for x in 0..8 {
-        if x < count {
-            r = with_kind(needs_all(r, x, earlier(file, x)), file, x);
+    Some(Rule {
+        all: earlier(file, x),
+        one_of,
+    })
+}
+
+impl Rules {
+    pub fn new(file: &[u8]) -> Self {
+        let count = plain_file::operations(file);
+        Rules {
+            count,
+            of: array::from_fn(|x| if x < count { rule_of(file, x) } else { None }),
         }
     }
-    r
-}
 
-fn wide(b: u8) -> usize
-    ensures { result ≤ 255 }
-{
-    b as usize
-}
+    // Is the rule of each operation known?
+    pub fn are_known(&self) -> bool {
+        self.count <= 8 && self.of.iter().take(self.count).all(|rule| rule.is_some())
+    }
 
-// Is one of each of the sets that x needs among the operations in `done`?
-fn has_each(r: Rules, done: u8, x: usize) -> bool {
-    for j in 0..wide(r.sets[x % 8]) {
-        if r.one_of[(x % 8 * 8 + j) % 64] & done == 0 {
-            return false;
+    // May x follow a run of the operations in `done`? It is not among them, and what it needs is.
+    pub fn may_follow(&self, done: Set, x: usize) -> bool {
+        match self.of.get(x) {
+            Some(Some(rule)) => !done.has(x) && rule.allows(done),
+            _ => false,
         }
     }
-    true
-}
-
-// May x follow a run of the operations in `done`? It is not among them, and what it needs is.
-pub fn may_follow(r: Rules, done: u8, x: usize) -> bool {
-    if r.count <= x || has(done, x) || r.all[x % 8] & done != r.all[x % 8] {
-        return false;
-    }
-    has_each(r, done, x)
 }

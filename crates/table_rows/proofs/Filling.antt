@@ -4,7 +4,7 @@ use mathlib.Core.Logic.{◌⊎◌, inl, inr, ◌≢◌}
 use mathlib.Core.Path.{◌≡◌, refl, sym, ◌∙◌}
 use native.Mathlib.Omega.{arith}
 use Prim.Native.Nat.{ℕ, ◌+◌, ◌*◌, ◌<◌, ◌≤◌}
-use lib.ListN.{length, get_or, replicate}
+use lib.ListN.{length, get_or, set, replicate}
 use Rattle.basics.proofs.Bits.{zeros}
 use Rattle.basics.proofs.Booleans.{equal?}
 use Rattle.trace.specs.Premises.{HoldsTrace}
@@ -19,19 +19,20 @@ use Rattle.index.proofs.Operations.{at-rth}
 use Rattle.states.specs.States.{next_of}
 use Rattle.states.proofs.Runs.{ends-start}
 use Rattle.walk.specs.Going.{Stopped, at_left_out, Awake, Going}
-use Rattle.courses.specs.Courses.{Begun, Courses}
+use Rattle.courses.specs.Courses.{Begun, Unstarted, Courses}
 use Rattle.courses.proofs.Cutting.{follows-other, apart_other}
 use Rattle.courses.proofs.Starting.{start-sized, courses-whole}
 use Rattle.lent.specs.Written.{written_over}
-use Rattle.table_rows.specs.Filling.{Fillable, RowsTo}
+use Rattle.table_rows.specs.Filling.{RowsTo}
 use Rattle.table_rows.specs.Rows.{order_table}
-use Rattle.table_rows.proofs.Keeping.{KeptAt}
+use Rattle.table_rows.proofs.Keeping.{KeptAt, Known}
+use Rattle.table_rows.proofs.Stretch.{none-own}
 use Rattle.table_rows.proofs.Rows.{rows_all}
 
 -- ---- the start
 
 module _ {bytes : List ℕ} {p n : ℕ} {order starts list ends before : List ℕ}
-    (x : Fillable bytes p n order starts list ends before) {q : ℕ} (hq : q < p) {firsts lasts : List ℕ}
+    (x : Known bytes p n order starts list ends before) {q : ℕ} (hq : q < p) {firsts lasts : List ℕ}
     (begun : Begun starts firsts lasts 16) where
   abbrev t : Trace
   t = trace_of bytes
@@ -63,19 +64,20 @@ module _ {bytes : List ℕ} {p n : ℕ} {order starts list ends before : List �
       stands v h (inl e) = inr (at_left_out (rw (e, zeros 16 q) refl))
       stands v h (inr d) = inl ((w.each v).1 (every.all v (rw x.holds.workers at h), d))
 
-  pub kept-start : {all ready : ℕ} → Below p all → Without all q ready
-      → KeptAt (trace_of bytes) starts list ends lasts q 0 (get_or starts q 0) firsts (replicate 16 0) (replicate 4 0)
-      (replicate 256 0) ready before before
-  kept-start every w =
+  pub kept-start : {counts events waiting : List ℕ} → Unstarted counts events waiting → {all ready : ℕ} → Below p all
+      → Without all q ready
+      → KeptAt (trace_of bytes) starts list ends lasts q 0 (get_or starts q 0) firsts (set counts q 0) events waiting
+      ready before before
+  kept-start u every w =
       let listed = x.handed.listed in
-      record {
-        sized = start-sized (λ r l. ((listed.follows r l).up_to_end, listed.few r l)) begun refl refl refl;
+      rw (u.undone, u.unposted, u.unawaited, none-own q) (record {
+        sized = start-sized (λ r l. ((listed.follows r l).up_to_end, listed.few r l)) begun;
         upto = omega arith;
-        own-list = lists.each q (omega (arith, hq, x.holds.most));
+        own-list = λ l. lists.each q (omega (arith, hq, x.holds.most));
         going = λ l. ([], going-first every w l);
         same_length = refl;
         rows = λ old r. let e : get_or starts q 0 + 0 ≡ get_or starts q 0 = omega arith in rw e r;
-      }
+      })
 
 -- ---- worker after worker
 

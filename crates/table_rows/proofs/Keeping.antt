@@ -5,21 +5,22 @@ use mathlib.Core.Path.{◌≡◌, refl, sym, ap, ◌∙◌}
 use native.Mathlib.Nat.{suc-mul, mul-le-mul_right}
 use native.Mathlib.Omega.{arith}
 use Prim.Native.Nat.{ℕ, ◌+◌, ◌*◌, ◌<◌, ◌≤◌}
-use lib.ListN.{length, get_or, set, length-set}
+use lib.ListN.{length, get_or, set}
 use lib.Seq.{set-get_or}
 use Rattle.basics.specs.Membership.{up_to}
 use Rattle.runs.specs.Workers.{count}
-use Rattle.trace.specs.Premises.{Fits}
+use Rattle.trace.specs.Premises.{HoldsTrace, Fits}
 use Rattle.trace.specs.Reading.{trace_of}
 use Rattle.trace.specs.Trace.{Trace, size, worker_of}
 use Rattle.trace.proofs.Answers.{few-numbers}
 use Rattle.trace.proofs.Fitting.{trace-fits}
 use Rattle.index.specs.Indexed.{Places}
-use Rattle.index.specs.Steps.{operation_at, Follows}
+use Rattle.index.specs.Steps.{operation_at, Follows, Handed}
 use Rattle.index.proofs.Lookups.{holds-places, part-start, part_count, place-operation}
 use Rattle.index.proofs.Operations.{at_some, at-rth}
 use Rattle.walk.specs.Going.{Going, Sized, Walked}
 use Rattle.courses.specs.Courses.{Begun}
+use Rattle.accept.specs.Acceptance.{AcceptedTrace}
 use Rattle.accept.proofs.Questions.{accepted-run}
 use Rattle.table_rows.specs.Filling.{RoomAt, RoomAlong, Fillable, RowsTo, RowsAlong, FillsPart}
 use Rattle.table_rows.specs.Passing.{Own, OwnPassed, PassesOwn}
@@ -29,17 +30,29 @@ use Rattle.table_rows.proofs.Own.{own-done}
 -- entry `own` of the worker's list is next
 pub record KeptAt (t : Trace) (starts list ends lasts : List ℕ) (q i own : ℕ) (nexts counts events waiting : List ℕ)
     (ready : ℕ) (before now : List ℕ) : Type 0 where
-  pub sized : Sized ends nexts counts events waiting
+  pub sized : Sized ends nexts
   pub upto : i ≤ get_or lasts q 0
-  pub own-list : Follows t (size t) list q own (get_or ends q 0) (get_or lasts q 0) i
+  pub own-list : i < get_or lasts q 0 → Follows t (size t) list q own (get_or ends q 0) (get_or lasts q 0) i
   pub going : operation_at t q i < size t
       → (r : List ℕ) × Going t (operation_at t q i) q r list ends lasts nexts counts events waiting ready
   pub same_length : length now ≡ length before
   pub rows : (old : List ℕ) → RowsTo t starts (get_or starts q 0) old before
       → RowsTo t starts (get_or starts q 0 + i) old now
 
+-- an accepted file with its index, and a table that holds n × p numbers
+pub record Known (bytes : List ℕ) (p n : ℕ) (order starts list ends table : List ℕ) : Type 0 where
+  pub accepted : AcceptedTrace bytes (trace_of bytes)
+  pub holds : HoldsTrace bytes p n
+  pub handed : Handed (trace_of bytes) order starts list ends
+  pub room : n * p ≤ length table
+
+pub known : {bytes : List ℕ} {p n : ℕ} {order starts list ends table : List ℕ} → HoldsTrace bytes p n
+    → Handed (trace_of bytes) order starts list ends → Fillable bytes p n table
+    → Known bytes p n order starts list ends table
+known h i x = record { accepted = x.accepted; holds = h; handed = i; room = x.room }
+
 module _ {bytes : List ℕ} {p n : ℕ} {order starts list ends before : List ℕ}
-    (x : Fillable bytes p n order starts list ends before) {q : ℕ} (hq : q < p) {firsts lasts : List ℕ}
+    (x : Known bytes p n order starts list ends before) {q : ℕ} (hq : q < p) {firsts lasts : List ℕ}
     (begun : Begun starts firsts lasts 16) where
   abbrev t : Trace
   t = trace_of bytes
@@ -85,7 +98,7 @@ module _ {bytes : List ℕ} {p n : ℕ} {order starts list ends before : List �
           complete = accepted-run x.accepted;
           all = last-count;
           left = l;
-          follows = k.own-list;
+          follows = k.own-list l;
           so_far = r ++ s;
           going = rw still on;
         }
@@ -104,18 +117,17 @@ module _ {bytes : List ℕ} {p n : ℕ} {order starts list ends before : List �
       part_end : get_or starts (q + 1) 0 ≤ n
       part_end = part-start places (q + 1) (omega (arith, low))
 
-      pub room-along : RoomAlong p q i to order starts counts' now
+      pub room-along : RoomAlong p q i to order starts now
       room-along =
           record {
             up = omega (arith, passed.up);
             own = low;
             known = hq;
-            counters = w.sized.counters;
             places = omega (arith, passed.most, last-place, part_end, x.holds.few);
             each = each;
           }
         where
-          each : (m : ℕ) → i ≤ m → m < to → RoomAt p (get_or order (get_or starts q 0 + m) 0) counts' now
+          each : (m : ℕ) → i ≤ m → m < to → RoomAt p (get_or order (get_or starts q 0 + m) 0) now
           each m h j =
               let at_place : get_or starts q 0 + m < n = omega (arith, j, passed.most, last-place, part_end) in
               let v = get_or order (get_or starts q 0 + m) 0 in
@@ -124,7 +136,6 @@ module _ {bytes : List ℕ} {p n : ℕ} {order starts list ends before : List �
               record {
                 workers = x.holds.most;
                 few = omega (arith, row-end, few-numbers x.holds);
-                counts_hold = omega (arith, w.sized.counters, x.holds.most);
                 table_holds = omega (arith, row-end, x.room, k.same_length);
               }
 
@@ -135,28 +146,16 @@ module _ {bytes : List ℕ} {p n : ℕ} {order starts list ends before : List �
 
         -- ---- behind it
 
-        pub kept_next : to < get_or lasts q 0
-            → KeptAt t starts list ends lasts q to at nexts' (set counts' q to) events'' waiting'' freed before now'
-        kept_next j =
+        pub kept_next : KeptAt t starts list ends lasts q to at nexts' (set counts' q to) events'' waiting'' freed before now'
+        kept_next =
             record {
-              sized = record {
-                places = w.sized.places;
-                counters = length-set counts' q to ∙ w.sized.counters;
-                words = s.words;
-                room = s.room;
-                each = w.sized.each;
-              };
-              upto = omega arith;
-              own-list = passed.follows j;
+              sized = w.sized;
+              upto = passed.most;
+              own-list = passed.follows;
               going = passed.going;
               same_length = a.same_length ∙ k.same_length;
               rows = rows-to;
             }
-
-        pub kept-last : get_or lasts q 0 ≤ to → FillsPart t starts q before now'
-        kept-last j old r =
-            let e : get_or starts q 0 + to ≡ get_or starts (q + 1) 0 = omega (arith, j, passed.most, last-place) in
-            rw e at (rows-to old r)
 
   -- ---- the end
 

@@ -28,7 +28,7 @@ use Rattle.index.proofs.Operations.{rth-at, at-rth, at-inside}
 use Rattle.states.specs.States.{EndsRun, Exhausted, next_of, Posted}
 use Rattle.states.proofs.Along.{own-count, own-free, own-ends}
 use Rattle.walk.specs.Going.{Stopped, at_end, at_left_out, at_event, Awake, Going, Released}
-use Rattle.walk.proofs.Releasing.{released-none, released-step, still}
+use Rattle.walk.proofs.Releasing.{cleared, released-none, released-step, still}
 use Rattle.walk.proofs.Stretches.{step-posted, plain-posted}
 use Rattle.walk.proofs.Turns.{going-exhausted}
 use Rattle.courses.proofs.Cutting.{follows-other, apart_other, ends-other}
@@ -109,52 +109,51 @@ module _ {t : Trace} (f : Fits t) {q i a : ℕ} {r list ends lasts nexts counts 
                 other (at_left_out e) = at_end (ends-other t p a (λ z. n (sym z ∙ o.own)) (get_or counts p 0) e)
                 other (at_event e h need none j) = at_event e h need none j
 
-    module _ (long : length waiting ≡ 256) where
-      none : Released q events waiting events waiting 0
-      none = released-none x.run.shows.words long
+    none : Released q events waiting events waiting 0
+    none = released-none
 
-      -- ---- a plain one
+    -- ---- a plain one
 
-      pub own-plain : {d : ℕ} → Plain t d a
-          → Going t b q (r ++ a ∷ []) list ends lasts nexts (set counts q (i + 1)) events waiting 0
-      own-plain p = going-freed (plain-posted p x.run.shows.words) none (λ p h. h)
+    pub own-plain : {d : ℕ} → Plain t d a
+        → Going t b q (r ++ a ∷ []) list ends lasts nexts (set counts q (i + 1)) events waiting 0
+    own-plain p = going-freed (plain-posted p x.run.shows.words) none (λ p h. h)
 
-      -- ---- a step: it posts its event, or needed it, and then it is posted
+    -- ---- a step: it posts its event, or needed it, and then it is posted
 
-      pub own-step : {v : ℕ} → Tells t v a
-          → Going t b q (r ++ a ∷ []) list ends lasts nexts (set counts q (i + 1)) (with_post events (event v))
-          (set waiting (event v) 0) (get_or waiting (event v) 0)
-      own-step {v} s = going-freed (step-posted s events x.run.shows.words free) released was
-        where
-          free : (holds v && not (is_posted events (event v))) ≡ false
-          free = go (holds v) (is_posted events (event v)) refl ((own-free f ended complete o.below).each (event v))
-            where
-              go : (h p : Bool) → holds v ≡ h → (needs t (event v) a ≡ true → p ≡ true) → (h && not p) ≡ false
-              go false p e g = refl
-              go true true e g = refl
-              go true false e g =
-                  let z = g (s.needed (event v) ∙ rw (e, eq-eqb (event v) (event v) refl)) in
-                  absurd (zero_one cc)
+    pub own-step : {v : ℕ} → Tells t v a
+        → Going t b q (r ++ a ∷ []) list ends lasts nexts (set counts q (i + 1)) (with_post events (event v))
+        (set waiting (event v) 0) (get_or waiting (event v) 0)
+    own-step {v} s = going-freed (step-posted s events x.run.shows.words free) released was
+      where
+        free : (holds v && not (is_posted events (event v))) ≡ false
+        free = go (holds v) (is_posted events (event v)) refl ((own-free f ended complete o.below).each (event v))
+          where
+            go : (h p : Bool) → holds v ≡ h → (needs t (event v) a ≡ true → p ≡ true) → (h && not p) ≡ false
+            go false p e g = refl
+            go true true e g = refl
+            go true false e g =
+                let z = g (s.needed (event v) ∙ rw (e, eq-eqb (event v) (event v) refl)) in
+                absurd (zero_one cc)
 
-          released : Released q events waiting (with_post events (event v)) (set waiting (event v) 0)
-              (get_or waiting (event v) 0)
-          released = rw (or_zero_l (get_or waiting (event v) 0)) at (released-step none {e = event v} (omega arith))
+        released : Released q events waiting (with_post events (event v)) (set waiting (event v) 0)
+            (get_or waiting (event v) 0)
+        released = rw (or_zero_l (get_or waiting (event v) 0)) at (released-step none {e = event v} (omega arith) x.run.shows.words)
 
-          -- who is ready or waits then waited before
-          was : (p : ℕ) → Awake (set waiting (event v) 0) (get_or waiting (event v) 0) p → Awake waiting 0 p
-          was p (inl h) = inr (event v, h)
-          was p (inr (e, h)) = go (equal? e (event v))
-            where
-              go : (e ≡ event v) ⊎ (e ≢ event v) → Awake waiting 0 p
-              go (inl z) =
-                  absurd (in-none (rw (z, get_or-set_same waiting (event v) 0 0 (omega (arith, long))) at h))
-              go (inr z) = inr (e, rw (get_or-set_other waiting (event v) e 0 0 z) at h)
+        -- who is ready or waits then waited before
+        was : (p : ℕ) → Awake (set waiting (event v) 0) (get_or waiting (event v) 0) p → Awake waiting 0 p
+        was p (inl h) = inr (event v, h)
+        was p (inr (e, h)) = go (equal? e (event v))
+          where
+            go : (e ≡ event v) ⊎ (e ≢ event v) → Awake waiting 0 p
+            go (inl z) =
+                absurd (in-none (rw (z, cleared waiting (event v)) at h))
+            go (inr z) = inr (e, rw (get_or-set_other waiting (event v) e 0 0 z) at h)
 
 -- ---- a stretch of plain ones
 
 module _ {t : Trace} (f : Fits t) {q i : ℕ} {r list ends lasts nexts counts events waiting : List ℕ}
     (x : Going t (operation_at t q i) q r list ends lasts nexts counts events waiting 0) {c : List ℕ}
-    (complete : CompleteRunOf t c) (long : length waiting ≡ 256) {d j : ℕ} (b : Between t d q i j) where
+    (complete : CompleteRunOf t c) {d j : ℕ} (b : Between t d q i j) where
   -- with m operations of the worker done
   abbrev Kept : ℕ → Type 0
   Kept m =
@@ -163,7 +162,7 @@ module _ {t : Trace} (f : Fits t) {q i : ℕ} {r list ends lasts nexts counts ev
   next : (m : ℕ) → i ≤ m → m < j → operation_at t q (m + 1) < size t → Kept m → Kept (m + 1)
   next m h k l (s, g) =
       let o = at-rth t q m (at-inside t q (m + 1) m l (omega arith)) in
-      let on = own-plain f g o complete (at-rth t q (m + 1) l) long (b.each m h k) in
+      let on = own-plain f g o complete (at-rth t q (m + 1) l) (b.each m h k) in
       (s ++ operation_at t q m ∷ [], rw (set-set counts q m (m + 1)) at on)
 
   many : (k m : ℕ) → i ≤ m → m + k ≤ j → operation_at t q (m + k) < size t → Kept m → Kept (m + k)

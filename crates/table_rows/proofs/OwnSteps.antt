@@ -2,10 +2,10 @@
 -- start; a step; one that frees nobody; one that frees somebody; the end.
 use mathlib.Core.List.{List, [], ◌∷◌, ◌++◌}
 use mathlib.Core.Logic.{◌⊎◌, inl, inr, ◌≢◌}
-use mathlib.Core.Path.{◌≡◌, ◌∙◌}
+use mathlib.Core.Path.{◌≡◌}
 use native.Mathlib.Omega.{arith}
 use Prim.Native.Nat.{ℕ, ◌+◌, ◌<◌, ◌≤◌}
-use lib.ListN.{length, get_or, set, take, length-set}
+use lib.ListN.{get_or, set, take}
 use lib.Seq.{set-set}
 use Rattle.basics.proofs.Booleans.{equal?, less?}
 use Rattle.trace.specs.Trace.{Trace, size}
@@ -34,12 +34,12 @@ module _ {t : Trace} {list ends lasts nexts counts : List ℕ} {q own i : ℕ} {
 
   -- ---- plain operations: with m done, from those with i' done on
 
-  module _ {i' j : ℕ} {events' waiting' r : List ℕ} (room : length waiting' ≡ 256) (b : Between t (size t) q i' j)
+  module _ {i' j : ℕ} {events' waiting' r : List ℕ} (b : Between t (size t) q i' j)
       (g : Going t (operation_at t q i') q r list ends lasts nexts (set counts q i') events' waiting' 0) where
     plain-going : (m : ℕ) → i' ≤ m → m ≤ j → operation_at t q m < size t → (s : List ℕ)
         × Going t (operation_at t q m) q s list ends lasts nexts (set counts q m) events' waiting' 0
     plain-going m h k l =
-        rw (set-set counts q i' m) at (own-stretch x.fits g x.complete room b m h k l)
+        rw (set-set counts q i' m) at (own-stretch x.fits g x.complete b m h k l)
 
     plain_row : (m : ℕ) → i' ≤ m → m ≤ j → operation_at t q m < size t
         → take t.workers (set counts q m) ≡ row t (operation_at t q m)
@@ -49,8 +49,8 @@ module _ {t : Trace} {list ends lasts nexts counts : List ℕ} {q own i : ℕ} {
 
   -- ---- at the start
 
-  pub own-start : length waiting ≡ 256 → OwnTo t list ends lasts nexts counts q i own events waiting
-  own-start room =
+  pub own-start : OwnTo t list ends lasts nexts counts q i own events waiting
+  own-start =
       record {
         upto = x.follows.first.on;
         most = most;
@@ -62,10 +62,10 @@ module _ {t : Trace} {list ends lasts nexts counts : List ℕ} {q own i : ℕ} {
         };
         rows = record {
           inside = λ m h k. inside m (omega (arith, k, most));
-          each = λ m h k. plain_row room x.follows.first x.going m h (omega arith)
+          each = λ m h k. plain_row x.follows.first x.going m h (omega arith)
               (inside m (omega (arith, k, most)));
         };
-        going = λ l. plain-going room x.follows.first x.going (reached list end last own) x.follows.first.on
+        going = λ l. plain-going x.follows.first x.going (reached list end last own) x.follows.first.on
             (omega arith) l;
       }
     where
@@ -79,7 +79,7 @@ module _ {t : Trace} {list ends lasts nexts counts : List ℕ} {q own i : ℕ} {
 
   -- ---- a step
 
-  module _ {at : ℕ} {events' waiting' : List ℕ} (room : length waiting' ≡ 256)
+  module _ {at : ℕ} {events' waiting' : List ℕ}
       (y : OwnTo t list ends lasts nexts counts q i at events' waiting') (h : at < get_or ends q 0) where
     abbrev m : ℕ
     m = ahead (get_or list at 0)
@@ -118,7 +118,7 @@ module _ {t : Trace} {list ends lasts nexts counts : List ℕ} {q own i : ℕ} {
         (set waiting' (event (get_or list at 0)) 0) (get_or waiting' (event (get_or list at 0)) 0)
     step-next l =
         let (r, g) = step-going in
-        let more = own-step x.fits g (at-rth t q m step.below) x.complete (at-rth t q (m + 1) l) room
+        let more = own-step x.fits g (at-rth t q m step.below) x.complete (at-rth t q (m + 1) l)
         step.tells in
         (r ++ operation_at t q m ∷ [], rw (set-set counts q m (m + 1)) at more)
 
@@ -153,9 +153,6 @@ module _ {t : Trace} {list ends lasts nexts counts : List ℕ} {q own i : ℕ} {
           going = λ l. going l (less? (m + 1) last);
         }
       where
-        long : length (set waiting' (event (get_or list at 0)) 0) ≡ 256
-        long = length-set waiting' (event (get_or list at 0)) 0 ∙ room
-
         most : reached list (get_or ends q 0) (get_or lasts q 0) (at + 1) ≤ get_or lasts q 0
         most = elim (less? (at + 1) end) [
           | inl k ↦
@@ -174,7 +171,7 @@ module _ {t : Trace} {list ends lasts nexts counts : List ℕ} {q own i : ℕ} {
         each v a b (inl k) = step-rows.each v a k
         each v a b (inr k) =
             let (r, g) = next (inside (m + 1) (omega (arith, k, b, most))) in
-            plain_row long step.next g v k (omega (arith, b)) (inside v (omega (arith, b, most)))
+            plain_row step.next g v k (omega (arith, b)) (inside v (omega (arith, b, most)))
 
         going : operation_at t q (reached list end last (at + 1)) < size t → (m + 1 < last) ⊎ (last ≤ m + 1)
             → (r : List ℕ)
@@ -183,7 +180,7 @@ module _ {t : Trace} {list ends lasts nexts counts : List ℕ} {q own i : ℕ} {
             (set waiting' (event (get_or list at 0)) 0) 0
         going l (inl k) =
             let (r, g) = next (inside (m + 1) k) in
-            plain-going long step.next g (reached list end last (at + 1)) step.next.on (omega arith) l
+            plain-going step.next g (reached list end last (at + 1)) step.next.on (omega arith) l
         going l (inr k) =
             let below = at_count t q _ l in
             absurd (omega (arith, below, x.all, k, step.next.on))

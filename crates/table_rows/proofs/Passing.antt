@@ -1,24 +1,21 @@
 -- A worker's steps up to one that frees somebody, in whatever trace.
 
 use mathlib.Core.List.{List}
-use mathlib.Core.Path.{◌≡◌, ◌∙◌}
+use mathlib.Core.Path.{◌≡◌}
 use native.Mathlib.Omega.{arith}
 use Prim.Native.Nat.{ℕ, ◌+◌, ◌<◌, ◌≤◌}
-use lib.ListN.{length, get_or, set, length-set}
+use lib.ListN.{get_or, set}
 use Rattle.events.specs.Events.{with_post}
-use Rattle.events.proofs.EventBits.{with_post-length}
 use Rattle.index.specs.Steps.{ahead, event}
 use Rattle.table_rows.specs.Passing.{PassesOwn, PassingOwn}
 use Rattle.table_rows.proofs.OwnSteps.{own-start, own-next, own-freed, own-end}
 
-pub passing-start : {list : List ℕ} {q own end last : ℕ} {events waiting : List ℕ} → own ≤ end → length events ≡ 4
-    → length waiting ≡ 256 → PassingOwn list q own end last events waiting events waiting own
-passing-start h k room =
+pub passing-start : {list : List ℕ} {q own end last : ℕ} {events waiting : List ℕ} → own ≤ end
+    → PassingOwn list q own end last events waiting events waiting own
+passing-start h =
     record {
       inside = h;
-      words = k;
-      room = room;
-      passing = λ t ends lasts nexts counts i e l x. own-start x room;
+      passing = λ t ends lasts nexts counts i e l x. own-start x;
     }
 
 module _ {list : List ℕ} {q own end last : ℕ} {events waiting events' waiting' : List ℕ} {at : ℕ}
@@ -29,10 +26,8 @@ module _ {list : List ℕ} {q own end last : ℕ} {events waiting events' waitin
   passing-next h none =
       record {
         inside = omega (arith, h);
-        words = with_post-length events' _ ∙ y.words;
-        room = length-set waiting' _ 0 ∙ y.room;
         passing = λ t ends lasts nexts counts i e l x.
-            own-next x y.room (y.passing t ends lasts nexts counts i e l x) (omega (arith, e, h)) none;
+            own-next x (y.passing t ends lasts nexts counts i e l x) (omega (arith, e, h)) none;
       }
 
   pub passes-freed : at < end
@@ -42,18 +37,14 @@ module _ {list : List ℕ} {q own end last : ℕ} {events waiting events' waitin
   passes-freed h =
       record {
         inside = omega (arith, h);
-        words = with_post-length events' _ ∙ y.words;
-        room = length-set waiting' _ 0 ∙ y.room;
         passed = λ t ends lasts nexts counts i e l x.
-            own-freed x y.room (y.passing t ends lasts nexts counts i e l x) (omega (arith, e, h));
+            own-freed x (y.passing t ends lasts nexts counts i e l x) (omega (arith, e, h));
       }
 
   pub passes-end : end ≤ at → PassesOwn list q own end last events waiting events' waiting' at last 0
   passes-end h =
       record {
         inside = y.inside;
-        words = y.words;
-        room = y.room;
         passed = λ t ends lasts nexts counts i e l x.
             rw l at (own-end x (y.passing t ends lasts nexts counts i e l x) (omega (arith, e, h)));
       }

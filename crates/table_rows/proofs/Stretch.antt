@@ -1,7 +1,7 @@
 -- A stretch of one worker's rows, which differ in its own count alone, row by row. In order: none; whatever the
 -- worker's own count; one more.
 use mathlib.Core.List.{List}
-use mathlib.Core.Path.{◌≡◌, refl, sym, ◌∙◌}
+use mathlib.Core.Path.{◌≡◌, refl, ◌∙◌}
 use native.Mathlib.Omega.{arith}
 use Prim.Native.Nat.{ℕ, ◌+◌, ◌<◌, ◌≤◌}
 use lib.ListN.{length, get_or, set, take, replicate, length-set}
@@ -12,7 +12,7 @@ use Rattle.model.specs.Computed.{row}
 use Rattle.index.specs.Indexed.{Places, Rth}
 use Rattle.index.proofs.Lookups.{part_count, part-rth}
 use Rattle.index.proofs.Operations.{rth-at, at_count}
-use Rattle.walk.specs.Going.{Sized, Walked}
+use Rattle.walk.specs.Going.{Walked}
 use Rattle.table_rows.specs.Filling.{RoomAt, RoomAlong, row_put, place_of, RowsTo, RowsOf, RowsAlong}
 use Rattle.table_rows.proofs.Rows.{put-length, rows_more}
 
@@ -35,26 +35,6 @@ along-own {q = q} counts v s =
       }) old y;
     }
 
-pub room-own : {p q i j : ℕ} {order starts : List ℕ} (counts : List ℕ) {table : List ℕ} (v : ℕ)
-    → RoomAlong p q i j order starts (set counts q v) table → RoomAlong p q i j order starts counts table
-room-own {q = q} counts v r =
-    let same = length-set counts q v in
-    record {
-      up = r.up;
-      own = r.own;
-      known = r.known;
-      counters = sym same ∙ r.counters;
-      places = r.places;
-      each = λ m h l.
-          let k = r.each m h l in
-          record {
-            workers = k.workers;
-            few = k.few;
-            counts_hold = omega (arith, same, k.counts_hold);
-            table_holds = k.table_holds;
-          };
-    }
-
 -- nothing done, and none of the worker's
 abbrev none : List ℕ
 none = replicate 16 0
@@ -69,46 +49,23 @@ pub walked-own : (q : ℕ)
     ready'
 walked-own q {counts' = counts'} w = (get_or counts' q 0, rw (set-get_or counts' q 0) w)
 
-pub sized-own : {ends nexts counts events waiting : List ℕ} (q v : ℕ) → Sized ends nexts counts events waiting
-    → Sized ends nexts (set counts q v) events waiting
-sized-own {counts = counts} q v s =
-    record {
-      places = s.places;
-      counters = length-set counts q v ∙ s.counters;
-      words = s.words;
-      room = s.room;
-      each = s.each;
-    }
-
-pub own-sized : {ends nexts : List ℕ} (counts : List ℕ) {events waiting : List ℕ} (q v : ℕ)
-    → Sized ends nexts (set counts q v) events waiting → Sized ends nexts counts events waiting
-own-sized counts q v s =
-    record {
-      places = s.places;
-      counters = sym (length-set counts q v) ∙ s.counters;
-      words = s.words;
-      room = s.room;
-      each = s.each;
-    }
-
 -- ---- one more
 
-module _ {p q i j : ℕ} {order starts counts before : List ℕ} (room : RoomAlong p q i j order starts counts before)
+module _ {p q i j : ℕ} {order starts counts before : List ℕ} (room : RoomAlong p q i j order starts before)
     {m : ℕ} {now : List ℕ} (s : RowsAlong order starts p q i m counts before now) (h : i ≤ m) (l : m < j) where
-  pub along-room : RoomAt p (get_or order (get_or starts q 0 + m) 0) counts now
+  pub along-room : RoomAt p (get_or order (get_or starts q 0 + m) 0) now
   along-room =
       let r = room.each m h l in
       record {
         workers = r.workers;
         few = r.few;
-        counts_hold = r.counts_hold;
         table_holds = omega (arith, r.table_holds, s.same_length);
       }
 
-  pub along-next : {next : List ℕ}
+  pub along-next : {next : List ℕ} → length counts ≡ 16
       → next ≡ row_put p (get_or order (get_or starts q 0 + m) 0) (take p (set counts q m)) now
       → RowsAlong order starts p q i (m + 1) counts before next
-  along-next {next} e = record { same_length = long ∙ s.same_length; rows = rows }
+  along-next {next} full e = record { same_length = long ∙ s.same_length; rows = rows }
     where
       k : ℕ
       k = get_or order (get_or starts q 0 + m) 0
@@ -116,7 +73,7 @@ module _ {p q i j : ℕ} {order starts counts before : List ℕ} (room : RoomAlo
       long : length next ≡ length now
       long =
           rw e (put-length p k (take p (set counts q m)) now
-          (length-take-le p (set counts q m) (omega (arith, along-room.counts_hold, length-set counts q m)))
+          (length-take-le p (set counts q m) (omega (arith, along-room.workers, full, length-set counts q m)))
           along-room.table_holds)
 
       rows : (t : Trace) (n : ℕ) → Places t n order starts → t.workers ≡ p → q < p → RowsOf t q i (m + 1) counts

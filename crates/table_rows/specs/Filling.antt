@@ -3,26 +3,22 @@
 -- Differs: nowhere. Means: the call's contract speaks of none of these.
 use Rattle.std.specs.Prelude.{List, ◌++◌, ◌≡◌, ℕ, ◌+◌, ◌*◌, ◌<◌, ◌≤◌, length, get_or, set, take, drop}
 use Rattle.runs.specs.Workers.{earlier}
-use Rattle.trace.specs.Premises.{HoldsTrace}
 use Rattle.trace.specs.Reading.{trace_of}
 use Rattle.trace.specs.Trace.{Trace, size, worker_of}
 use Rattle.model.specs.Computed.{row}
 use Rattle.index.specs.Indexed.{Places}
-use Rattle.index.specs.Steps.{operation_at, Handed}
+use Rattle.index.specs.Steps.{operation_at}
 use Rattle.accept.specs.Acceptance.{AcceptedTrace}
 
--- an accepted file with its index, and a table that holds n × p numbers
-pub record Fillable (bytes : List ℕ) (p n : ℕ) (order starts list ends table : List ℕ) : Type 0 where
+-- an accepted file, and a table that holds n × p numbers
+pub record Fillable (bytes : List ℕ) (p n : ℕ) (table : List ℕ) : Type 0 where
   pub accepted : AcceptedTrace bytes (trace_of bytes)
-  pub holds : HoldsTrace bytes p n
-  pub handed : Handed (trace_of bytes) order starts list ends
   pub room : n * p ≤ length table
 
--- the counts and the table have room for the p numbers of row k
-pub record RoomAt (p k : ℕ) (counts table : List ℕ) : Type 0 where
+-- the table has room for the p numbers of row k
+pub record RoomAt (p k : ℕ) (table : List ℕ) : Type 0 where
   pub workers : p ≤ 16
   pub few : k * p + p ≤ 16384
-  pub counts_hold : p ≤ length counts
   pub table_holds : k * p + p ≤ length table
 
 -- the table with a row written to the p numbers from k × p on
@@ -49,13 +45,12 @@ FillsPart t starts q before now =
 -- ---- a stretch of one worker's rows, which differ in its own count alone
 
 -- there is room for the rows of the operations in worker q's part of the order, those behind i others and fewer than j
-pub record RoomAlong (p q i j : ℕ) (order starts counts table : List ℕ) : Type 0 where
+pub record RoomAlong (p q i j : ℕ) (order starts table : List ℕ) : Type 0 where
   pub up : i ≤ j
   pub own : q < 16
   pub known : q < p
-  pub counters : length counts ≡ 16
   pub places : get_or starts q 0 + j ≤ 1024
-  pub each : (m : ℕ) → i ≤ m → m < j → RoomAt p (get_or order (get_or starts q 0 + m) 0) counts table
+  pub each : (m : ℕ) → i ≤ m → m < j → RoomAt p (get_or order (get_or starts q 0 + m) 0) table
 
 -- these counts, with m operations of worker q, are the row of its operation with m earlier ones, from i up to j
 pub record RowsOf (t : Trace) (q i j : ℕ) (counts : List ℕ) : Type 0 where

@@ -1,6 +1,6 @@
 -- The steps of a worker along which the walk is kept, passed over while they free nobody.
 -- Follows: document 01, "Order table and order". Means: the call's contract does not speak of it.
-use Rattle.std.specs.Prelude.{List, ◌≡◌, ℕ, ◌<◌, ◌≤◌, length, get_or, set}
+use Rattle.std.specs.Prelude.{List, ◌≡◌, ℕ, ◌<◌, ◌≤◌, get_or, set}
 use Rattle.basics.specs.Membership.{up_to}
 use Rattle.runs.specs.Workers.{count}
 use Rattle.trace.specs.Premises.{Fits}
@@ -48,8 +48,6 @@ pub record OwnPassed (t : Trace) (list ends lasts nexts counts : List ℕ) (q i 
 pub record PassesOwn (list : List ℕ) (q own end last : ℕ) (events waiting events' waiting' : List ℕ) (at to freed : ℕ)
     : Type 0 where
   pub inside : at ≤ end
-  pub words : length events' ≡ 4
-  pub room : length waiting' ≡ 256
   pub passed : (t : Trace) (ends lasts nexts counts : List ℕ) (i : ℕ) → get_or ends q 0 ≡ end → get_or lasts q 0 ≡ last
       → Own t list ends lasts nexts counts q own i events waiting
       → OwnPassed t list ends lasts nexts counts q i at to events' waiting' freed
@@ -58,8 +56,6 @@ pub record PassesOwn (list : List ℕ) (q own end last : ℕ) (events waiting ev
 pub record PassingOwn (list : List ℕ) (q own end last : ℕ) (events waiting events' waiting' : List ℕ)
     (at : ℕ) : Type 0 where
   pub inside : at ≤ end
-  pub words : length events' ≡ 4
-  pub room : length waiting' ≡ 256
   pub passing : (t : Trace) (ends lasts nexts counts : List ℕ) (i : ℕ) → get_or ends q 0 ≡ end → get_or lasts q 0 ≡ last
       → Own t list ends lasts nexts counts q own i events waiting
       → OwnTo t list ends lasts nexts counts q i at events' waiting'

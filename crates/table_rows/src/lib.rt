@@ -1,7 +1,7 @@
 // Writing the rows of the order table of an accepted file.
 #![tactic(auto)]
 
-ghost use Rattle.std.specs.Prelude.{◌≡◌, ℕ, ◌<◌, ◌≤◌, length, set, take};
+ghost use Rattle.std.specs.Prelude.{◌≡◌, ℕ, ◌<◌, ◌≤◌, set, take};
 ghost use Rattle.trace.specs.Reading.{trace_of};
 ghost use Rattle.walk.specs.Going.{Sized, Walked};
 ghost use Rattle.lent.specs.Written.{written_over};
@@ -9,9 +9,12 @@ ghost use Rattle.table_rows.specs.Filling.{RoomAt, RoomAlong, Fillable, row_put,
 ghost use Rattle.table_rows.specs.Passing.{PassesOwn};
 ghost use Rattle.table_rows.specs.Rows.{order_table};
 
+use index::{Index, IndexedFile};
+use walk::{Limits, Walk};
+
 // Writes the row of operation k, worker q's with `own` earlier ones, to its part of the table.
 fn put_row(done: &[u16; 16], p: usize, k: usize, q: usize, own: u16, table: &mut [u16])
-    requires { RoomAt p k done.now table.old × (q < p) }
+    requires { RoomAt p k table.old × (q < p) }
     ensures { table.new ≡ row_put p k (take p (set done.now q own)) table.old }
 {
     let first = k * p;
@@ -22,24 +25,22 @@ fn put_row(done: &[u16; 16], p: usize, k: usize, q: usize, own: u16, table: &mut
 // Writes the rows of worker q's operations with at least `from` earlier ones and fewer than `to`: the same done counts,
 // but for its own.
 fn put_rows(
+    index: &Index,
     p: usize,
-    order: &[u16; 1024],
-    starts: &[u16; 17],
     q: usize,
     from: usize,
     to: usize,
     done: &[u16; 16],
     table: &mut [u16],
 )
-    requires { RoomAlong p q from to order.now starts.now done.now table.old }
-    ensures { RowsAlong order.now starts.now p q from to
+    requires { RoomAlong p q from to index.now.order index.now.starts table.old }
+    ensures { RowsAlong index.now.order index.now.starts p q from to
         done.now table.old table.new }
 {
-    let first = basics::index(starts[q]);
-    let mut m = from;
-    while m < to {
-        put_row(done, p, basics::index(order[first + m]), q, m as u16, table);
-        m += 1;
+    let first = usize::from(index.starts[q]);
+    for m in from..to {
+        let k = usize::from(index.order[first + m]);
+        put_row(done, p, k, q, m as u16, table);
     }
 }
 
@@ -53,33 +54,26 @@ struct Passed {
 
 // Takes a worker's steps, from entry `own` of its list on, up to one that frees somebody; where none does, the worker
 // is at its end, with `last` operations.
-fn pass_own(
-    list: &[u32; 1024],
-    own: usize,
-    end: usize,
-    last: usize,
-    events: &mut [u64; 4],
-    waiting: &mut [u16; 256],
-) -> Passed
-    requires { (own ≤ «end») × («end» ≤ 1024) × (length events.old ≡ 4) × (length waiting.old ≡ 256) }
-    ensures { (q : ℕ) → PassesOwn list.now q own «end» last events.old
-        waiting.old events.new waiting.new result.at result.to result.freed }
+fn pass_own(list: &[u32; 1024], own: usize, end: usize, last: usize, walk: &mut Walk) -> Passed
+    requires { (own ≤ «end») × («end» ≤ 1024) }
+    ensures { ((q : ℕ) → PassesOwn list.now q own «end» last walk.old.events walk.old.waiting
+        walk.new.events walk.new.waiting result.at result.to result.freed)
+        × (walk.new.nexts ≡ walk.old.nexts)
+        × (walk.new.done ≡ walk.old.done) }
 {
-    let mut at = own;
-    while at < end {
+    for at in own..end {
         let x = list[at];
-        let freed = walk::release(index::event_of(x), events, waiting);
-        at += 1;
+        let freed = walk.release(index::event_of(x));
         if freed != 0 {
             return Passed {
-                at: at,
-                to: basics::wide_index(index::count_before(x)) + 1,
-                freed: freed,
+                at: at + 1,
+                to: index::count_before(x) as usize + 1,
+                freed,
             };
         }
     }
     Passed {
-        at: at,
+        at: end,
         to: last,
         freed: 0,
     }
@@ -87,102 +81,52 @@ fn pass_own(
 
 // Goes on with the walk until nobody is ready. Worker q, which is neither ready nor waits, has done `from` operations:
 // they are added to the done counts where others go on.
-fn exhaust(
-    list: &[u32; 1024],
-    ends: &[u16; 16],
-    lasts: &[u16; 16],
-    ready: u16,
-    q: usize,
-    from: usize,
-    nexts: &mut [u16; 16],
-    done: &mut [u16; 16],
-    events: &mut [u64; 4],
-    waiting: &mut [u16; 256],
-)
-    requires { Sized ends.now nexts.old done.old events.old waiting.old × (q < 16) × (from < 65536) }
-    ensures { (m : ℕ) × Walked list.now ends.now lasts.now nexts.old
-        (set done.old q from) events.old waiting.old ready
-        nexts.new (set done.new q m) events.new waiting.new 0 }
+fn exhaust(list: &[u32; 1024], limits: &Limits, ready: u16, q: usize, from: usize, walk: &mut Walk)
+    requires { Sized limits.now.ends walk.old.nexts × (q < 16) × (from < 65536) }
+    ensures { (m : ℕ) × Walked list.now limits.now.ends limits.now.lasts walk.old.nexts
+        (set walk.old.done q from) walk.old.events walk.old.waiting ready
+        walk.new.nexts (set walk.new.done q m) walk.new.events walk.new.waiting 0 }
 {
     if ready != 0 {
-        done[q] = from as u16;
-        walk::walk_on(list, ends, lasts, ready, nexts, done, events, waiting);
+        walk.done[q] = from as u16;
+        walk.walk_on(list, limits, ready);
     }
 }
 
 // Writes the rows of worker q's operations. The walk without one of them is kept: behind a step of the worker that
 // frees somebody, the walk without the next operation goes on from there; up to such a step the rows differ in the own
 // count alone. The worker's last operation is never added.
-fn fill_worker(
-    file: &[u8],
-    p: usize,
-    n: usize,
-    order: &[u16; 1024],
-    starts: &[u16; 17],
-    list: &[u32; 1024],
-    ends: &[u16; 16],
-    q: usize,
-    table: &mut [u16],
-)
-    requires { Fillable file.now p n order.now starts.now list.now ends.now table.old × (q < p) }
-    ensures { FillsPart (trace_of file.now) starts.now q table.old
+fn fill_worker(x: &IndexedFile<'_>, q: usize, table: &mut [u16])
+    requires { Fillable x.now.trace.bytes.now x.now.trace.workers x.now.trace.operations table.old
+        × (q < x.now.trace.workers) }
+    ensures { FillsPart (trace_of x.now.trace.bytes.now) x.now.index.now.starts q table.old
         table.new }
 {
-    let mut nexts = [0u16; 16];
-    let mut lasts = [0u16; 16];
-    let mut done = [0u16; 16];
-    let mut events = [0u64; 4];
-    let mut waiting = [0u16; 256];
-    courses::begin(starts, &mut nexts, &mut lasts);
+    let p = usize::from(x.trace.workers);
+    let index = x.index;
+    let (limits, mut walk) = courses::begin(index);
     let mut ready = masks::without(masks::below(p as u32), q as u32);
-    let mut own = basics::index(starts[q]);
-    let end = basics::index(ends[q]);
-    let last = basics::index(lasts[q]);
+    let mut own = usize::from(index.starts[q]);
+    let end = usize::from(index.ends[q]);
+    let last = usize::from(limits.lasts[q]);
     let mut from: usize = 0;
+    // A `while`: how far a round gets is known at its end.
     while from < last {
-        exhaust(
-            list,
-            ends,
-            &lasts,
-            ready,
-            q,
-            from,
-            &mut nexts,
-            &mut done,
-            &mut events,
-            &mut waiting,
-        );
-        let s = pass_own(list, own, end, last, &mut events, &mut waiting);
-        let to = s.to;
-        put_rows(p, order, starts, q, from, to, &done, table);
-        if last <= to {
-            // The done counts are those of the last row; no one reads them here.
-            done[q] = (last - 1) as u16;
-            return;
-        }
+        exhaust(&index.list, &limits, ready, q, from, &mut walk);
+        let s = pass_own(&index.list, own, end, last, &mut walk);
+        put_rows(index, p, q, from, s.to, &walk.done, table);
         ready = s.freed;
         own = s.at;
-        from = to;
+        from = s.to;
     }
 }
 
 // Writes all rows, worker by worker.
-pub fn fill(
-    file: &[u8],
-    p: usize,
-    n: usize,
-    order: &[u16; 1024],
-    starts: &[u16; 17],
-    list: &[u32; 1024],
-    ends: &[u16; 16],
-    table: &mut [u16],
-)
-    requires { Fillable file.now p n order.now starts.now list.now ends.now table.old }
-    ensures { table.new ≡ written_over (order_table (trace_of file.now)) table.old }
+pub fn fill(x: &IndexedFile<'_>, table: &mut [u16])
+    requires { Fillable x.now.trace.bytes.now x.now.trace.workers x.now.trace.operations table.old }
+    ensures { table.new ≡ written_over (order_table (trace_of x.now.trace.bytes.now)) table.old }
 {
-    let mut q: usize = 0;
-    while q < p {
-        fill_worker(file, p, n, order, starts, list, ends, q, table);
-        q += 1;
+    for q in 0..usize::from(x.trace.workers) {
+        fill_worker(x, q, table);
     }
 }

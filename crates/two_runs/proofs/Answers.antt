@@ -8,12 +8,12 @@ use mathlib.Core.Path.{◌≡◌, refl, sym, ◌∙◌}
 use Prim.Native.Nat.{ℕ, ◌<◌, ◌≤◌}
 use lib.IntN.{pos}
 use lib.ListN.{length}
-use Rattle.basics.proofs.Booleans.{test-true, zero_one}
+use Rattle.basics.proofs.Booleans.{test-true}
 use Rattle.trace.specs.Premises.{HoldsTrace}
 use Rattle.trace.specs.Reading.{Reading, refused, trace_of}
 use Rattle.trace.specs.Refusals.{by_earlier, by_this}
 use Rattle.trace.specs.Trace.{Trace, size}
-use Rattle.trace.proofs.Outcomes.{tells-refusals, outcome-refused, outcome-passes}
+use Rattle.trace.proofs.Outcomes.{tells-refusals, outcome-refused, outcome-passes, refuses-nothing}
 use Rattle.model.specs.Computed.{must_precede_in}
 use Rattle.model.specs.Orders.{MustPrecedeIn}
 use Rattle.model.proofs.SharedOrder.{must-precede-in-test, order-neither, pair-order-zero}

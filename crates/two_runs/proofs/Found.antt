@@ -1,8 +1,9 @@
 -- The runs before they are written to the buffers. In order: what the writer of a run asks; a run found; both.
-use mathlib.Core.List.{List}
+use mathlib.Core.List.{List, ◌++◌}
 use mathlib.Core.Path.{◌≡◌, ◌∙◌}
-use Prim.Native.Nat.{ℕ, ◌<◌}
-use lib.ListN.{take}
+use Prim.Native.Nat.{ℕ, ◌<◌, ◌≤◌}
+use lib.ListN.{length, take, drop}
+use lib.Seq.{length-take-le}
 use Rattle.runs.specs.Workers.{earlier}
 use Rattle.trace.specs.Premises.{HoldsTrace}
 use Rattle.trace.specs.Reading.{trace_of}
@@ -42,6 +43,11 @@ run-found accepted h {late} w =
     record { room = w.room; front = rw all at w.front }
 
 -- ---- both, copied
+
+-- the first n numbers of a run, copied to the front of a buffer
+pub run-copied : {n : ℕ} (run : List ℕ) {part : List ℕ} (buffer : List ℕ) → n ≤ length run → part ≡ take n run
+    → part ++ drop n buffer ≡ written_over (take n run) buffer
+run-copied {n} run buffer l e = rw (e, length-take-le n run l)
 
 pub both-written : {bytes : List ℕ} {n a b : ℕ} {one other : List ℕ} → BothFound bytes n a b one other
     → {first first-now second second-now : List ℕ} → first-now ≡ written_over (take n one) first

@@ -29,176 +29,86 @@
 //   written                        from which place on; bytes of the output
 #![tactic(auto)]
 
-use case_files::FILE;
+use case_files::FileAtHand;
 use case_lines::Line;
-use outcomes::SEEN;
-use typed_calls::{LIST, OUTPUT, TABLE};
+use case_words::Word;
+use outcomes::{Kind, Seen};
+use typed_calls::{LIST, Memory};
 
 // Notes a line, unless it is empty or a comment.
-fn note_line(seen: &mut [u64; SEEN], line: Line) {
-    if line.word != case_words::NOTHING {
-        outcomes::count(seen, outcomes::LINES, 1);
+fn note_line(seen: &mut Seen, line: &Line) {
+    if !matches!(line.word, Some(Word::Nothing)) {
+        seen.count(Kind::Lines, 1);
     }
-    outcomes::expect(seen, case_lines::is_whole(line));
+    seen.expect(line.is_whole());
 }
 
 // Looks at lent memory
 
-fn number_at(list: &[u16], i: usize) -> u32 {
-    if i < list.len() {
-        return basics::wide(list[i]);
-    }
-    65536
-}
-
-// Does the list hold the line's numbers, from the place on that stands before them?
-fn has_numbers(list: &[u16], line: Line) -> bool {
-    for i in 0..23 {
-        let at = line.number[0] as usize % 65536 + i;
-        if i + 1 < line.count && number_at(list, at) != line.number[i + 1] {
-            return false;
-        }
-    }
-    true
-}
-
-fn byte_number(bytes: &[u8], i: usize) -> u32 {
-    if i < bytes.len() {
-        return basics::wide_byte(bytes[i]);
-    }
-    256
-}
-
-fn has_bytes(bytes: &[u8], line: Line) -> bool {
-    for i in 0..23 {
-        let at = line.number[0] as usize % 65536 + i;
-        if i + 1 < line.count && byte_number(bytes, at) != line.number[i + 1] {
-            return false;
-        }
-    }
-    true
+// Does the list hold the numbers behind the first one, from the place on that it says? What is behind the list counts
+// as `past`.
+fn has_numbers<T: Copy + Into<u32>>(list: &[T], past: u32, numbers: &[u32]) -> bool {
+    let Some((from, numbers)) = numbers.split_first() else {
+        return true;
+    };
+    let from = *from as usize % 65536;
+    numbers.iter().enumerate().all(|(i, due)| match list.get(from + i % 65536) {
+        Some(number) => (*number).into() == *due,
+        None => past == *due,
+    })
 }
 
 // The numbers of a line as those of a list.
-fn put_numbers(list: &mut [u16; LIST], line: Line) {
-    for i in 0..24 {
-        if i < line.count {
-            list[i] = (line.number[i] % 65536) as u16;
-        }
+fn put_numbers(list: &mut [u16; LIST], numbers: &[u32]) {
+    for (to, number) in list.iter_mut().zip(numbers.iter()) {
+        *to = (*number % 65536) as u16;
     }
 }
 
-// Puts numbers into lent memory, or looks at it; a word of which nothing is known here is a mismatch.
-fn look(
-    seen: &mut [u64; SEEN],
-    table: &[u16; TABLE],
-    first: &mut [u16; LIST],
-    second: &mut [u16; LIST],
-    output: &[u8; OUTPUT],
-    line: Line,
-) {
-    if line.word == case_words::PUT_FIRST {
-        put_numbers(first, line);
-        return;
-    }
-    if line.word == case_words::PUT_SECOND {
-        put_numbers(second, line);
-        return;
-    }
-    if line.word == case_words::ENTRIES {
-        typed_calls::looked(seen, has_numbers(table, line));
-        return;
-    }
-    if line.word == case_words::FIRST {
-        typed_calls::looked(seen, has_numbers(first, line));
-        return;
-    }
-    if line.word == case_words::SECOND {
-        typed_calls::looked(seen, has_numbers(second, line));
-        return;
-    }
-    if line.word == case_words::WRITTEN {
-        typed_calls::looked(seen, has_bytes(output, line));
-        return;
-    }
-    outcomes::expect(seen, false);
+// Puts numbers into lent memory, or looks at it.
+fn look(seen: &mut Seen, memory: &mut Memory, word: case_words::Memory, numbers: &[u32]) {
+    let holds = match word {
+        case_words::Memory::PutFirst => {
+            put_numbers(&mut memory.lists.first, numbers);
+            return;
+        }
+        case_words::Memory::PutSecond => {
+            put_numbers(&mut memory.lists.second, numbers);
+            return;
+        }
+        case_words::Memory::Entries => has_numbers(&memory.table, 65536, numbers),
+        case_words::Memory::First => has_numbers(&memory.lists.first, 65536, numbers),
+        case_words::Memory::Second => has_numbers(&memory.lists.second, 65536, numbers),
+        case_words::Memory::Written => has_numbers(&memory.output, 256, numbers),
+    };
+    typed_calls::looked(seen, holds);
 }
 
 // The lines
 
-// Calls on the first `size` bytes; where there are fewer, it is a mismatch.
-fn call_on(
-    seen: &mut [u64; SEEN],
-    bytes: &[u8],
-    size: usize,
-    table: &mut [u16; TABLE],
-    first: &mut [u16; LIST],
-    second: &mut [u16; LIST],
-    output: &mut [u8; OUTPUT],
-    line: Line,
-) {
-    if size <= bytes.len() {
-        typed_calls::call(seen, &bytes[0..size], table, first, second, output, line);
-        return;
-    }
-    outcomes::expect(seen, false);
-}
-
-// Obeys a line; how many bytes of the file are lent then.
-fn obey(
-    seen: &mut [u64; SEEN],
-    file: &mut [u8; FILE],
-    size: usize,
-    table: &mut [u16; TABLE],
-    first: &mut [u16; LIST],
-    second: &mut [u16; LIST],
-    output: &mut [u8; OUTPUT],
-    line: Line,
-) -> usize {
-    let by = case_words::obeyed_by(line.word);
+// Obeys a line; a word of which nothing is known is a mismatch, and so is a call on more bytes than there are.
+fn obey(seen: &mut Seen, file: &mut FileAtHand, memory: &mut Memory, line: &Line) {
     note_line(seen, line);
-    if by == case_words::OF_FILE {
-        return case_files::change_file(file, size, line);
+    match line.word {
+        Some(Word::Nothing) => (),
+        Some(Word::Change(change)) => file.change(change, &line.number),
+        Some(Word::AtOnce(word)) => typed_calls::read_at_once(seen, file, word, &line.number),
+        Some(Word::Call(call)) => match file.lent() {
+            Some(bytes) => memory.call(seen, bytes, call, &line.number),
+            None => seen.expect(false),
+        },
+        Some(Word::Memory(word)) => look(seen, memory, word, line.numbers()),
+        None => seen.expect(false),
     }
-    if by == case_words::READ_AT_ONCE {
-        typed_calls::read_at_once(seen, file, line);
-        return size;
-    }
-    if by == case_words::CALL {
-        call_on(seen, file, size, table, first, second, output, line);
-        return size;
-    }
-    if by == case_words::OF_MEMORY {
-        look(seen, table, first, second, output, line);
-        return size;
-    }
-    outcomes::expect(seen, line.word == case_words::NOTHING);
-    size
 }
 
-// The lines of a text, one after the other.
-pub fn typed_cases(seen: &mut [u64; SEEN], text: &[u8]) {
-    let mut file = [0u8; FILE];
-    let mut table = [9u16; TABLE];
-    let mut first = [9u16; LIST];
-    let mut second = [9u16; LIST];
-    let mut output = [9u8; OUTPUT];
-    let mut size: usize = 0;
-    let mut at: usize = 0;
-    for i in 0..text.len() {
-        if at < text.len() {
-            let line = case_lines::line_at(text, at);
-            size = obey(
-                seen,
-                &mut file,
-                size,
-                &mut table,
-                &mut first,
-                &mut second,
-                &mut output,
-                line,
-            );
-            at = line.next;
-        }
+// What is seen in the lines of a text, one after the other.
+pub fn typed_cases(text: &[u8]) -> Seen {
+    let mut seen = Seen::nothing();
+    let mut file = FileAtHand::empty();
+    let mut memory = Memory::new();
+    for line in text.split(|byte| *byte == b'\n') {
+        obey(&mut seen, &mut file, &mut memory, &Line::new(line));
     }
+    seen
 }

@@ -7,11 +7,12 @@ use mathlib.Core.Path.{◌≡◌, refl, ◌∙◌}
 use native.Mathlib.Omega.{arith}
 use Prim.Native.Nat.{ℕ, ◌+◌, ◌%◌, ◌<◌, ◌≤◌}
 use lib.Bits.{bit_or}
-use lib.ListN.{length, get_or, set}
+use lib.ListN.{length, get_or, set, length-set}
 use borrow.Author.Tests.{eq-eqb}
 use Rattle.basics.proofs.Booleans.{zero_one}
 use Rattle.trace.specs.Trace.{Trace}
 use Rattle.events.specs.Events.{is_posted, with_post}
+use Rattle.events.proofs.EventBits.{with_post-length}
 use Rattle.masks.specs.Masks.{With, Apart}
 use Rattle.masks.proofs.Sets.{in_either}
 use Rattle.index.specs.Steps.{operation_at, ahead, holds, event, reached, Follows}
@@ -44,8 +45,10 @@ module _ {list : List ℕ} {q below from end last : ℕ} (low : q < 16) where
       record {
         from_on = omega arith;
         up_to_end = h;
+        words = k;
+        room = l;
         none = λ e. refl;
-        released = released-none k l;
+        released = released-none;
         moved = λ t a r counts x go. record {
           run = gone-plain t a q low r counts k (omega arith) go.first (gone-none t a q low r counts x);
           follows = follows-here go (omega arith) h;
@@ -84,8 +87,10 @@ module _ {list : List ℕ} {q below from end last : ℕ} (low : q < 16) where
           record {
             from_on = omega (arith, x.from_on);
             up_to_end = omega arith;
+            words = with_post-length events' (event (get_or list at 0)) ∙ x.words;
+            room = length-set waiting' (event (get_or list at 0)) 0 ∙ x.room;
             none = λ e. absurd (omega (arith, e, x.from_on));
-            released = released-step x.released (omega arith);
+            released = released-step x.released (omega arith) x.words;
             moved = moved;
             lowest = lowest;
           }
@@ -101,7 +106,7 @@ module _ {list : List ℕ} {q below from end last : ℕ} (low : q < 16) where
               rw fits (record {
                 run = gone-more t a q low r counts m.on m.run s.below s.other
                     (step-free s.tells events' free)
-                    (step-posted s.tells events' x.released.words free);
+                    (step-posted s.tells events' x.words free);
                 follows = record {
                   up_to_end = omega arith;
                   first = s.next;
@@ -132,18 +137,20 @@ module _ {list : List ℕ} {q below from end last : ℕ} (low : q < 16) where
         record {
           from_on = along_one.from_on;
           up_to_end = along_one.up_to_end;
+          words = along_one.words;
+          room = along_one.room;
           none = along_one.none;
           released = along_one.released;
           moved = λ t a r counts e go.
               let m = along_one.moved t a r counts e go in
               record {
-                run = gone-plain t a q low r counts along_one.released.words m.on m.follows.first m.run;
+                run = gone-plain t a q low r counts along_one.words m.on m.follows.first m.run;
                 follows = follows-here m.follows (omega arith) (omega arith);
                 on = omega (arith, m.on, m.follows.first.on);
               };
           lowest = λ t a r counts e go y.
               let m = along_one.moved t a r counts e go in
-              lowest-plain t a q low r counts along_one.released.words m.on m.follows.first m.run
+              lowest-plain t a q low r counts along_one.words m.on m.follows.first m.run
               (after y)
               (along_one.lowest t a r counts e go y);
         },
@@ -175,6 +182,8 @@ module _ {list : List ℕ} {q below from end last : ℕ} (low : q < 16) where
             along = record {
               from_on = along_one.from_on;
               up_to_end = along_one.up_to_end;
+              words = along_one.words;
+              room = along_one.room;
               none = λ e. absurd (omega (arith, e, x.from_on));
               released = released-own along_one.released w;
               moved = along_one.moved;
@@ -194,8 +203,10 @@ module _ {list : List ℕ} {q below from end last : ℕ} (low : q < 16) where
           along = record {
             from_on = x.from_on;
             up_to_end = x.up_to_end;
+            words = x.words;
+            room = rw y.is (length-set waiting' e y.mask ∙ x.room);
             none = x.none;
-            released = released-enter x.released (omega arith) y;
+            released = released-enter x.released (omega arith) x.room y;
             moved = rw same at x.moved;
             lowest = rw same at x.lowest;
           };
@@ -216,7 +227,7 @@ module _ {list : List ℕ} {q below from end last : ℕ} (low : q < 16) where
             let (need, none) = tests (holds (get_or list at 0)) (is_posted events' e) held in
             let s = go.each at (omega arith) h in
             at_event e (omega arith) (s.tells.needed e ∙ rw (need, eq-eqb e e refl)) none
-            (entered x.released (omega arith) y)
+            (entered x.released (omega arith) x.room y)
 
   -- ---- at the end
 

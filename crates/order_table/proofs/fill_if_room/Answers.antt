@@ -7,15 +7,13 @@ use Rattle.order_table.proofs.fill_if_room.Goals as goal
 
 pub overflow_mul-n : goal.overflow_mul-n
 overflow_mul-n c =
-    let few = few-numbers c.requires.1 in
+    let few = few-numbers c.args.x.now.trace.holds in
     search rules
 
 pub returns-then-n-p : goal.returns-then-n-p
 returns-then-n-p c =
-    let (accepted, holds, handed) = c.requires in
-    call-filled (accepted, holds) _ (omega (arith, c.if-n-p.true)) c.fill.ensures
+    rw c.counts.ensures
+    (call-filled (c.requires, c.args.x.now.trace.holds) _ (omega (arith, c.if-n-p.true)) c.fill.ensures)
 
 pub returns : goal.returns
-returns c =
-    let (accepted, holds, handed) = c.requires in
-    call-short (accepted, holds) _ (omega (arith, c.if-n-p.false))
+returns c = call-short (c.requires, c.args.x.now.trace.holds) _ (omega (arith, c.if-n-p.false))

@@ -7,7 +7,11 @@ use Rattle.table_rows.proofs.Keeping.{KeptAt}
 use Rattle.table_rows.proofs.fill_worker.Given as goal
 
 abbrev pub invariant-loop-from : goal.invariant-loop-from
-invariant-loop-from l = KeptAt (trace_of l.file) l.starts l.list l.ends l.lasts l.q l.from l.own l.nexts (set l.done l.q l.from) l.events l.waiting l.ready l.initial.table l.table
+invariant-loop-from l =
+    let x = l.x.index.now in
+    let w = l.walk in
+    KeptAt (trace_of l.x.trace.bytes.now) x.starts x.list x.ends l.limits.lasts l.q l.from l.own w.nexts
+    (set w.done l.q l.from) w.events w.waiting l.ready l.initial.table l.table
 
 abbrev pub decreases-loop-from : goal.decreases-loop-from
 decreases-loop-from l = l.last - l.from

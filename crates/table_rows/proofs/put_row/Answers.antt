@@ -35,7 +35,6 @@ pub write_row-requires : goal.write_row-requires
 write_row-requires c =
     let long = width c.args.k c.args.p c.args.table.now c.requires.0.table_holds in (
       omega (arith, long, c.requires.0.workers),
-      omega (arith, long, c.requires.0.counts_hold),
       omega (arith, long, c.requires.1),
     )
 

@@ -8,18 +8,19 @@ use Rattle.two_runs.proofs.runs_if_unordered.Goals as goal
 
 pub returns-then-must_precede : goal.returns-then-must_precede
 returns-then-must_precede c =
-    let (accepted, x, y, e, f) = c.requires in
-    call-ordered _ _ _ _ _ (accepted-pair accepted x.holds _ _ y)
+    let (accepted, y, e, f) = c.requires in
+    call-ordered _ _ _ _ _ (accepted-pair accepted c.args.x.now.trace.holds _ _ y)
     (inl (sym c.must_precede.ensures ∙ c.if-must_precede.true))
 
 pub runs_if_room-requires : goal.runs_if_room-requires
 runs_if_room-requires c =
-    let (accepted, x, y, e, f) = c.requires in
+    let (accepted, y, e, f) = c.requires in
+    let h = c.args.x.now.trace.holds in
     record {
-      unordered = pair-unordered (accepted-pair accepted x.holds _ _ y)
+      unordered = pair-unordered (accepted-pair accepted h _ _ y)
           (sym c.must_precede.ensures ∙ c.if-must_precede.false) e;
       workers = _;
-      holds = x.holds;
+      holds = h;
       b_late = f;
-      a_late = run-found accepted x.holds c.find_run-end.ensures;
+      a_late = run-found accepted h c.find_run-end.ensures;
     }

@@ -1,18 +1,16 @@
 -- `two_runs` meets its contract. Assumes nothing.
-use mathlib.Core.Path.{sym, ◌∙◌}
+use mathlib.Core.Path.{sym}
+use Rattle.std.proofs.lemmas.Result.{err_from_is_err_and}
 use Rattle.accept.proofs.Accepting.{answer-unread}
-use Rattle.reader.proofs.Answers.{answer-holds, answer-refused}
-use Rattle.two_runs.proofs.Answers.{call-refused}
+use Rattle.two_runs.proofs.Answers.{call-refused, call-unpaired}
 use Rattle.two_runs.proofs.two_runs.Goals as goal
 
-pub runs_if_pair-requires : goal.runs_if_pair-requires
-runs_if_pair-requires c =
-    let (r, x) = c.read_index.ensures in
-    let h = answer-holds _ _ _ (sym r ∙ c.in-Read.is) in
-    record { holds = h; handed = x.handed h }
+pub returns-in_err-trace : goal.returns-in_err-trace
+returns-in_err-trace c =
+    let p = err_from_is_err_and c.from_residual.result c.from_residual.ensures.1 in
+    rw (p.1, p.2) (call-refused _ _ _ _ _ (sym (answer-unread _ c.in_err-trace.ensures)))
 
-pub returns-in-Refused : goal.returns-in-Refused
-returns-in-Refused c =
-    let (r, x) = c.read_index.ensures in
-    let e = sym r ∙ c.in-Refused.is in
-    call-refused _ _ _ _ _ (sym (answer-unread _ (answer-refused _ _ _ e)))
+pub returns : goal.returns
+returns c =
+    let same = c.in_ok-trace.ensures in
+    call-unpaired _ _ _ _ _ (sym (rw same at c.refuse.ensures))

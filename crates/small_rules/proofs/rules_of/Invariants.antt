@@ -1,9 +1,0 @@
--- `rules_of` is safe and ends. Assumes nothing.
-use Prim.Native.Nat.{◌-◌}
-use Rattle.small_rules.proofs.rules_of.Given as goal
-
-abbrev pub invariant-loop-x : goal.invariant-loop-x
-invariant-loop-x l = Unit {0}
-
-abbrev pub decreases-loop-x : goal.decreases-loop-x
-decreases-loop-x l = 8 - l.x
