@@ -61,6 +61,7 @@ fn meets(first: u32, last: u32, other_first: u32, other_last: u32) -> u32
 }
 
 // The first and the last cell of each operation, and a bit for each Write.
+#[derive(Drop)]
 pub struct Cells {
     pub first: [u32; 1024],
     pub last: [u32; 1024],

@@ -15,6 +15,7 @@ fn slot_of(first: u32, last: u32) -> usize
 
 // Notes in 32 slots: 32 words of operations for each slot; then, for each slot, the first of its cells, the last of
 // them, and which of the eight blocks of operations are noted.
+#[derive(Drop)]
 pub struct Meetings {
     met: [u32; 1024],
     first: [u32; 32],

@@ -15,6 +15,7 @@ use table_entries::FilledTable;
 use unordered::Unordered;
 
 // A search for the races of a trace, row by row from row 0 on: `next` is the row that comes next.
+#[derive(Drop)]
 pub struct Search<'a> {
     pub filled: FilledTable<'a>,
     cells: Cells,

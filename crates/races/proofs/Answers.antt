@@ -32,7 +32,7 @@ use Rattle.races.specs.Races.{lower_after, higher_after, CountCall, RacesCall}
 use Rattle.races.specs.Races.{Listed, races_reading, races_of, answer_of, races_answer, listed_by, races_listed}
 use Rattle.races.specs.Races.{shorter}
 use Rattle.races.specs.Refusals.{AcceptedRaces, RefusedRaces}
-use Rattle.races.specs.declared.Races.{Races}
+use Rattle.races.specs.declared.answer.Races.{Races}
 use Rattle.races.proofs.Questions.{races-comes-out, refused-short}
 
 -- ---- by the outcome of the questions
@@ -159,14 +159,14 @@ shorter-min x y = elim (less? y x) [
 -- more than there is room for, or not
 many-none : (count room : ℕ) → too_many count room ≡ None → count ≤ room
 many-none count room l = elim (less? room count) [
-  | inl i ↦ absurd (zero_one (rw (lt-leb count room i) at l))
+  | inl i ↦ let e = rw (lt-leb count room i) at l in absurd (zero_one cc)
   | inr i ↦ i
 ]
 
 many-some : (count room : ℕ) {k : ℕ} → too_many count room ≡ Some k → (room < count) × (count ≡ k)
 many-some count room l = elim (less? room count) [
   | inl i ↦ (i, let e = rw (lt-leb count room i) at l in cc)
-  | inr i ↦ absurd (zero_one (rw (le-leb count room i) at l))
+  | inr i ↦ let e = rw (le-leb count room i) at l in absurd (zero_one cc)
 ]
 
 module _ {bytes table : List ℕ} {p n : ℕ} (h : HoldsTable bytes table) (t : HoldsTrace bytes p n)
@@ -247,7 +247,7 @@ module _ (bytes : List ℕ) (numbers room : ℕ) where
   races-listed {t} h count =
       Iff.trans
       (outcome-passes answer_of (λ q k z. zero_one cc) (races-comes-out bytes numbers room)
-      (λ u p. accepted-same p.filled.accepted h)) (λ p. (p.0, cc), λ p. (p.0, rw p.1))
+      (λ u p. accepted-same p.filled.accepted h)) (λ p. (p.0, sym (ap (λ (x : Races). x.races) (same-result p.1))), λ p. (p.0, rw p.1))
 
   -- where the table is long enough: the list is too short, and the place is the number of races
   pub races-short : {t : Trace} → AcceptedTable bytes numbers t → (k : ℕ)

@@ -8,7 +8,7 @@ use Rattle.lent.specs.Written.{written_over}
 use Rattle.race_model.specs.RaceList.{race_list, race_count}
 use Rattle.race_model.specs.RaceRows.{race_row}
 use Rattle.races.specs.Races.{races_answer, races_listed, lowers, highers, shorter}
-use Rattle.races.specs.declared.Races.{Races}
+use Rattle.races.specs.declared.answer.Races.{Races}
 
 -- what stands at an operation tells, where it is 0, that the operation has no race with a later one
 pub record Hints (t : Trace) (counts : List ℕ) : Type 0 where

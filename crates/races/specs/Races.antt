@@ -10,7 +10,7 @@ use Rattle.trace.specs.Trace.{Trace, size}
 use Rattle.lent.specs.Written.{written_over}
 use Rattle.order_table.specs.Table.{table_reading, table_after}
 use Rattle.race_model.specs.declared.Race.{Race}
-use Rattle.races.specs.declared.Races.{Races}
+use Rattle.races.specs.declared.answer.Races.{Races}
 use Rattle.race_model.specs.RaceList.{pair, race_list, race_count}
 
 -- 16. "Does the lent race list hold as many records as there are races?" It holds `room` records.

@@ -7,17 +7,12 @@ ghost use Rattle.race_model.specs.RaceList.{race_count};
 ghost use Rattle.races.specs.Premises.{Hints, AllWritten, too_many, ListsCall};
 ghost use Rattle.races.specs.Races.{races_answer, CountCall, RacesCall};
 
+mod answer;
+
+pub use answer::Races;
 use race_rows::Search;
 use table_entries::FilledTable;
 use trace::{Refusal, TraceFile};
-
-// The worker count, the operation count and the number of races, all of which are listed.
-#[derive(Clone, Copy, Debug, PartialEq, Eq)]
-pub struct Races {
-    pub workers: u8,
-    pub operations: u32,
-    pub races: u32,
-}
 
 // How many races there are; `counts` tells how many each operation has with later ones.
 fn count_races(filled: &FilledTable<'_>, counts: &mut [u16; 1024]) -> u32
@@ -65,7 +60,12 @@ pub fn fill_and_count(file: &[u8], table: &mut [u16], room: usize) -> Result<Rac
 
 // Writes all races, their lower operations and their higher ones, and answers how many there are. `counts` may tell
 // which operations have none.
-fn write_rows(filled: &FilledTable<'_>, counts: &[u16; 1024], lower: &mut [u16], higher: &mut [u16]) -> u32
+fn write_rows(
+    filled: &FilledTable<'_>,
+    counts: &[u16; 1024],
+    lower: &mut [u16],
+    higher: &mut [u16],
+) -> u32
     requires { Hints (trace_of filled.now.trace.bytes.now) counts.now
         × (race_count (trace_of filled.now.trace.bytes.now) ≤ length lower.old)
         × (race_count (trace_of filled.now.trace.bytes.now) ≤ length higher.old) }
@@ -101,7 +101,11 @@ fn too_many(filled: &FilledTable<'_>, room: usize, counts: &mut [u16; 1024]) -> 
 }
 
 // Question 16 of a file whose table is filled; where it does not refuse, the races.
-fn list_if_room(filled: &FilledTable<'_>, lower: &mut [u16], higher: &mut [u16]) -> Result<Races, Refusal>
+fn list_if_room(
+    filled: &FilledTable<'_>,
+    lower: &mut [u16],
+    higher: &mut [u16],
+) -> Result<Races, Refusal>
     ensures { ListsCall filled.now.trace.bytes.now (length filled.now.table.now) lower.old higher.old result
         lower.new higher.new }
 {
@@ -121,7 +125,12 @@ fn list_if_room(filled: &FilledTable<'_>, lower: &mut [u16], higher: &mut [u16])
 
 // Asks the file's questions, 11 and 16, of any bytes, any table and any two lists; where none refuses, the races, and
 // the order table; where 16 does, the order table.
-pub fn races(file: &[u8], table: &mut [u16], lower: &mut [u16], higher: &mut [u16]) -> Result<Races, Refusal>
+pub fn races(
+    file: &[u8],
+    table: &mut [u16],
+    lower: &mut [u16],
+    higher: &mut [u16],
+) -> Result<Races, Refusal>
     ensures { RacesCall file.now table.old lower.old higher.old result table.new lower.new higher.new }
 {
     order_table::order_table(file, table)?;
