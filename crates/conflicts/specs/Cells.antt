@@ -1,13 +1,14 @@
--- The cells of a trace's operations in an array, and sets of operations that meet a row of cells.
+-- The cells of a trace's operations in arrays, and sets of operations that meet a row of cells.
 -- Follows: document 01, "Race list": "both Read or Write, at least one a Write, with a common cell".
 -- Differs: nowhere. Means: no call's contract speaks of these. An operation that is no Read or Write has a first cell
--- above its last one in the array, so that it meets none; proofs/Cells shows that this test is `in_conflict`.
-use Rattle.std.specs.Prelude.{Bool, cond, ◌&&◌, ◌||◌, List, ◌≡◌, ℕ, ◌+◌, ◌*◌, ◌-◌, ◌/◌, ◌%◌, ◌^◌, ◌<◌, ◌≤◌, min, T, leb, length, get_or}
+-- above its last one in the arrays, so that it meets none; proofs/CellTests shows that this test is `in_conflict`. The
+-- struct is that of src/lib.rt.
+use Rattle.std.specs.Prelude.{Bool, cond, ◌&&◌, ◌||◌, List, ◌≡◌, ℕ, ◌+◌, ◌*◌, ◌-◌, ◌/◌, ◌%◌, ◌^◌, ◌<◌, ◌≤◌, min, T, leb, get_or}
 use mir.Val.{bool_byte}
 use Rattle.trace.specs.declared.Operation.{Operation}
-use Rattle.trace.specs.Reading.{reads, file_reading, trace_of}
 use Rattle.trace.specs.Trace.{Trace, size, operation, is_write, is_access}
 use Rattle.words.specs.Words.{is_in, word_of}
+use Rattle.conflicts.specs.declared.Cells.{Cells}
 
 -- 1 for true, 0 for false
 abbrev pub bit : Bool → ℕ
@@ -19,7 +20,7 @@ pub record BitFits (x b j : ℕ) : Type 0 where
   pub low : b < 2
   pub inside : j < 32
 
--- ---- the array
+-- ---- the arrays
 
 unfoldable pub first_cell : Operation → ℕ
 first_cell o = cond (is_access o.kind) o.number 4294967295
@@ -32,54 +33,36 @@ pub record CellsFit (o : Operation) : Type 0 where
   pub cells : T (is_access o.kind) → (1 ≤ o.length) × (o.number + o.length ≤ 4294967296)
   pub short : o.length < 65536
 
--- where the first cell of operation k stands, and 1,024 behind it the last one: in a block of 128 operations, four that
--- are 32 apart are neighbours
+-- where the first cell of operation k stands, and the last one: in a block of 128 operations, four that are 32 apart
+-- are neighbours
 unfoldable pub place : ℕ → ℕ
 place k = k / 128 * 128 + k % 32 * 4 + k / 32 % 4
 
 -- is operation k marked as a Write?
-abbrev pub marked : List ℕ → ℕ → Bool
-marked cells k = is_in (get_or cells (2048 + k / 32) 0) (k % 32)
+abbrev pub marked : Cells → ℕ → Bool
+marked cells k = is_in (get_or cells.writes (k / 32) 0) (k % 32)
 
--- what the array holds of operation k
-pub record CellsAt (o : Operation) (cells : List ℕ) (k : ℕ) : Type 0 where
+-- what the arrays hold of operation k
+pub record CellsAt (o : Operation) (cells : Cells) (k : ℕ) : Type 0 where
   pub fit : CellsFit o
-  pub the_first_cell : get_or cells (place k) 0 ≡ first_cell o
-  pub the_last_cell : get_or cells (1024 + place k) 0 ≡ last_cell o
+  pub the_first_cell : get_or cells.first (place k) 0 ≡ first_cell o
+  pub the_last_cell : get_or cells.last (place k) 0 ≡ last_cell o
   pub write : marked cells k ≡ is_write o.kind
 
--- it holds that of all operations of t
-pub record CellsHold (t : Trace) (cells : List ℕ) : Type 0 where
-  pub long : length cells ≡ 2080
+-- they hold that of all operations of t
+pub record CellsHold (t : Trace) (cells : Cells) : Type 0 where
   pub each : (k : ℕ) → k < size t → CellsAt (operation t k) cells k
 
 -- is operation 32 v + i of t a Write?
 abbrev pub writes_from : Trace → ℕ → ℕ → Bool
 writes_from t v i = is_write (operation t (32 * v + i)).kind
 
--- an array in which no operation is marked
-pub record Unmarked (cells : List ℕ) : Type 0 where
-  pub long : length cells ≡ 2080
-  pub marks : (v : ℕ) → v < 32 → get_or cells (2048 + v) 0 ≡ 0
-
 -- of the operations below k the cells are read, and those that are Writes are marked, and no others
-pub record CellsRead (t : Trace) (k : ℕ) (cells : List ℕ) : Type 0 where
-  pub long : length cells ≡ 2080
+pub record CellsRead (t : Trace) (k : ℕ) (cells : Cells) : Type 0 where
   pub fit : (j : ℕ) → j < k → CellsFit (operation t j)
-  pub the_first_cell : (j : ℕ) → j < k → get_or cells (place j) 0 ≡ first_cell (operation t j)
-  pub the_last_cell : (j : ℕ) → j < k → get_or cells (1024 + place j) 0 ≡ last_cell (operation t j)
-  pub marks : (v : ℕ) → v < 32 → get_or cells (2048 + v) 0 ≡ word_of (writes_from t v) (min 32 (k - 32 * v))
-
--- an operation of a file that reads as a trace, and the cells of those before it
-pub record NextCells (bytes : List ℕ) (k : ℕ) (cells : List ℕ) : Type 0 where
-  pub trace : file_reading bytes ≡ reads (trace_of bytes)
-  pub inside : k < size (trace_of bytes)
-  pub before : CellsRead (trace_of bytes) k cells
-
--- a file that reads as a trace, and an array
-pub record ReadsCells (bytes cells : List ℕ) : Type 0 where
-  pub trace : file_reading bytes ≡ reads (trace_of bytes)
-  pub long : length cells ≡ 2080
+  pub the_first_cell : (j : ℕ) → j < k → get_or cells.first (place j) 0 ≡ first_cell (operation t j)
+  pub the_last_cell : (j : ℕ) → j < k → get_or cells.last (place j) 0 ≡ last_cell (operation t j)
+  pub marks : (v : ℕ) → v < 32 → get_or cells.writes v 0 ≡ word_of (writes_from t v) (min 32 (k - 32 * v))
 
 -- ---- the operations that meet a row of cells
 
@@ -88,25 +71,15 @@ unfoldable pub meet : ℕ → ℕ → ℕ → ℕ → Bool
 meet first last other-first other_last = leb first other_last && leb other-first last
 
 -- do the cells that stand at a place meet these?
-abbrev pub met_at : List ℕ → ℕ → ℕ → ℕ → Bool
-met_at cells first last p = meet first last (get_or cells p 0) (get_or cells (1024 + p) 0)
+abbrev pub met_at : Cells → ℕ → ℕ → ℕ → Bool
+met_at cells first last p = meet first last (get_or cells.first p 0) (get_or cells.last p 0)
 
--- a block of operations, and place `at` of an array of sets
-pub record BlockAt (block : ℕ) (seen : List ℕ) (at : ℕ) : Type 0 where
-  pub few : block < 8
-  pub inside : at + 4 ≤ 1024
-  pub long : length seen ≡ 1120
-
--- in seen' the four words from `at` on tell which operations of the block meet these cells; the others are as in seen
-pub record BlockMet (cells : List ℕ) (first last block : ℕ) (seen : List ℕ) (at : ℕ) (seen' : List ℕ) : Type 0 where
-  pub long : length seen' ≡ 1120
-  pub met : (i : ℕ) → i < 128
-      → is_in (get_or seen' (at + i / 32) 0) (i % 32) ≡ met_at cells first last (place (128 * block + i))
-  pub ahead : (k : ℕ) → k < at → get_or seen' k 0 ≡ get_or seen k 0
-  pub behind : (k : ℕ) → at + 4 ≤ k → get_or seen' k 0 ≡ get_or seen k 0
+-- four words tell which operations of a block meet these cells
+pub record BlockMet (cells : Cells) (first last block : ℕ) (words : List ℕ) : Type 0 where
+  pub met : (i : ℕ) → i < 128 → is_in (get_or words (i / 32) 0) (i % 32) ≡ met_at cells first last (place (128 * block + i))
 
 -- ---- the operations in conflict with one
 
 -- r holds those operations from 32 v on that are in `met`, where one of the two is marked as a Write
-pub record ConflictsIn (cells : List ℕ) (a met v r : ℕ) : Type 0 where
+pub record ConflictsIn (cells : Cells) (a met v r : ℕ) : Type 0 where
   pub each : (i : ℕ) → i < 32 → is_in r i ≡ is_in met i && (marked cells a || marked cells (32 * v + i))

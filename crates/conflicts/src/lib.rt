@@ -1,14 +1,13 @@
-// The cells of all operations in one array, and the operations in conflict with one, as sets: a bit for each.
+// The cells of all operations, and the operations in conflict with one, as sets: a bit for each.
 #![tactic(auto)]
 
-ghost use Rattle.std.specs.Prelude.{◌≡◌, ◌+◌, ◌*◌, ◌^◌, ◌<◌, length, get_or};
+ghost use Rattle.std.specs.Prelude.{◌≡◌, ◌+◌, ◌*◌, ◌^◌, ◌<◌, get_or};
 ghost use Rattle.trace.specs.Reading.{trace_of};
-ghost use Rattle.trace.specs.Trace.{is_write};
-ghost use Rattle.conflicts.specs.Cells.{bit, BitFits, first_cell, last_cell, CellsFit, place, Unmarked, CellsRead};
-ghost use Rattle.conflicts.specs.Cells.{NextCells, CellsHold, ReadsCells, meet, met_at, BlockAt, BlockMet};
-ghost use Rattle.conflicts.specs.Cells.{ConflictsIn};
+ghost use Rattle.trace.specs.Trace.{size, is_write};
+ghost use Rattle.conflicts.specs.Cells.{bit, BitFits, first_cell, last_cell, CellsFit, place, CellsRead};
+ghost use Rattle.conflicts.specs.Cells.{CellsHold, meet, met_at, BlockMet, ConflictsIn};
 
-use trace::Operation;
+use trace::{Operation, TraceFile};
 
 // The first cell of a Read or Write; 2^32 - 1 for another operation.
 fn first_cell(o: Operation) -> u32
@@ -26,7 +25,7 @@ fn last_cell(o: Operation) -> u32
     ensures { result ≡ last_cell o }
 {
     if trace::is_access(o.kind) {
-        return o.number + (o.length as u32 - 1);
+        return o.number + (u32::from(o.length) - 1);
     }
     0
 }
@@ -35,10 +34,10 @@ fn last_cell(o: Operation) -> u32
 fn write_bit(o: Operation) -> u32
     ensures { result ≡ bit (is_write o.kind) }
 {
-    (o.kind == 4) as u32
+    u32::from(o.kind == 4)
 }
 
-// Where the first cell of operation k stands. The last one stands 1,024 behind it.
+// Where the cells of operation k stand.
 fn place_of(k: usize) -> usize
     requires { k < 1024 }
     ensures { (result ≡ place k) × (result < 1024) }
@@ -54,118 +53,101 @@ fn add_bit(x: u32, b: u32, j: usize) -> u32
     x + (b << j)
 }
 
-// Takes the marks of all Writes away.
-fn clear_marks(cells: &mut [u32; 2080])
-    requires { length cells.old ≡ 2080 }
-    ensures { Unmarked cells.new }
-{
-    let mut v: usize = 0;
-    while v < 32 {
-        cells[2048 + v] = 0;
-        v += 1;
-    }
-}
-
-// Reads the cells of operation k, and marks it if it is a Write.
-fn read_operation(file: &[u8], k: usize, cells: &mut [u32; 2080])
-    requires { NextCells file.now k cells.old }
-    ensures { CellsRead (trace_of file.now) (k + 1) cells.new }
-{
-    let o = trace::operation_of(file, k);
-    let at = place_of(k);
-    let first = first_cell(o);
-    let last = last_cell(o);
-    let write = write_bit(o);
-    let marks = add_bit(cells[2048 + k / 32], write, k % 32);
-    cells[at] = first;
-    cells[1024 + at] = last;
-    cells[2048 + k / 32] = marks;
-}
-
-// Reads the cells of all operations, and marks the Writes.
-pub fn read_cells(file: &[u8], cells: &mut [u32; 2080])
-    requires { ReadsCells file.now cells.old }
-    ensures { CellsHold (trace_of file.now) cells.new }
-{
-    clear_marks(cells);
-    let n = trace::operation_count(file) as usize;
-    let mut k: usize = 0;
-    while k < n {
-        read_operation(file, k, cells);
-        k += 1;
-    }
-}
-
-// The first cell of operation k.
-pub fn first_of(cells: &[u32; 2080], k: usize) -> u32
-    requires { k < 1024 }
-    ensures { result ≡ get_or cells.now (place k) 0 }
-{
-    cells[place_of(k)]
-}
-
-// Its last cell.
-pub fn last_of(cells: &[u32; 2080], k: usize) -> u32
-    requires { k < 1024 }
-    ensures { result ≡ get_or cells.now (1024 + place k) 0 }
-{
-    cells[1024 + place_of(k)]
-}
-
 // 1 where each of two rows of cells starts at or before the last one of the other; 0 otherwise.
 fn meets(first: u32, last: u32, other_first: u32, other_last: u32) -> u32
     ensures { result ≡ bit (meet first last other_first other_last) }
 {
-    ((first <= other_last) as u32) & ((other_first <= last) as u32)
+    u32::from(first <= other_last) & u32::from(other_first <= last)
 }
 
-// A word, with one more bit behind: do the cells that stand at a place meet these?
-fn add_met(cells: &[u32; 2080], first: u32, last: u32, at: usize, x: u32) -> u32
-    requires { (at < 1024) × (x < 2147483648) }
-    ensures { result ≡ 2 * x + bit (met_at cells.now first last at) }
-{
-    2 * x + meets(first, last, cells[at], cells[1024 + at])
+// The first and the last cell of each operation, and a bit for each Write.
+#[derive(Drop)]
+pub struct Cells {
+    pub first: [u32; 1024],
+    pub last: [u32; 1024],
+    pub writes: [u32; 32],
 }
 
-// Tells which operations of a block of 128 meet these cells, in the four words from `at` on. The four are made side by
-// side, so that the compiler tests four operations at once.
-pub fn meet_block(
-    cells: &[u32; 2080],
-    first: u32,
-    last: u32,
-    block: usize,
-    seen: &mut [u32; 1120],
-    at: usize,
-)
-    requires { BlockAt block seen.old at }
-    ensures { BlockMet cells.now first last block seen.old at seen.new }
-{
-    let base = 128 * block;
-    let mut x0: u32 = 0;
-    let mut x1: u32 = 0;
-    let mut x2: u32 = 0;
-    let mut x3: u32 = 0;
-    let mut left: usize = 32;
-    while 1 <= left {
-        let j = left - 1;
-        let i = base + 4 * j;
-        x0 = add_met(cells, first, last, i, x0);
-        x1 = add_met(cells, first, last, i + 1, x1);
-        x2 = add_met(cells, first, last, i + 2, x2);
-        x3 = add_met(cells, first, last, i + 3, x3);
-        left = j;
+impl Cells {
+    // Those of a trace.
+    pub fn of(trace: &TraceFile<'_>) -> Cells
+        ensures { CellsHold (trace_of trace.now.bytes.now) result }
+    {
+        let mut cells = Cells {
+            first: [0; 1024],
+            last: [0; 1024],
+            writes: [0; 32],
+        };
+        for k in 0..trace.operations as usize {
+            cells.read(trace, k);
+        }
+        cells
     }
-    seen[at] = x0;
-    seen[at + 1] = x1;
-    seen[at + 2] = x2;
-    seen[at + 3] = x3;
-}
 
-// Of the 32 operations from 32 v on, those in `met` of which one or operation a is a Write.
-pub fn conflict_word(cells: &[u32; 2080], a: usize, met: u32, v: usize) -> u32
-    requires { (a < 1024) × (v < 32) }
-    ensures { ConflictsIn cells.now a met v result }
-{
-    let all = 4294967295 * ((cells[2048 + a / 32] >> (a % 32)) % 2);
-    words::common(met, words::joined(all, cells[2048 + v]))
+    // Reads the cells of operation k, and marks it if it is a Write.
+    fn read(&mut self, trace: &TraceFile<'_>, k: usize)
+        requires { CellsRead (trace_of trace.now.bytes.now) k self.old
+            × (k < size (trace_of trace.now.bytes.now)) }
+        ensures { CellsRead (trace_of trace.now.bytes.now) (k + 1) self.new }
+    {
+        let o = trace.operation(k);
+        let at = place_of(k);
+        self.first[at] = first_cell(o);
+        self.last[at] = last_cell(o);
+        self.writes[k / 32] = add_bit(self.writes[k / 32], write_bit(o), k % 32);
+    }
+
+    // The first cell of operation k.
+    pub fn first_of(&self, k: usize) -> u32
+        requires { k < 1024 }
+        ensures { result ≡ get_or self.now.first (place k) 0 }
+    {
+        self.first[place_of(k)]
+    }
+
+    // Its last cell.
+    pub fn last_of(&self, k: usize) -> u32
+        requires { k < 1024 }
+        ensures { result ≡ get_or self.now.last (place k) 0 }
+    {
+        self.last[place_of(k)]
+    }
+
+    // A word, with one more bit behind: do the cells that stand at a place meet these?
+    fn add_met(&self, first: u32, last: u32, at: usize, x: u32) -> u32
+        requires { (at < 1024) × (x < 2147483648) }
+        ensures { result ≡ 2 * x + bit (met_at self.now first last at) }
+    {
+        2 * x + meets(first, last, self.first[at], self.last[at])
+    }
+
+    // Which operations of a block of 128 meet these cells, in four words. The four are made side by side, so that the
+    // compiler tests four operations at once.
+    pub fn meet_block(&self, first: u32, last: u32, block: usize) -> [u32; 4]
+        requires { block < 8 }
+        ensures { BlockMet self.now first last block result }
+    {
+        let base = 128 * block;
+        let mut x0: u32 = 0;
+        let mut x1: u32 = 0;
+        let mut x2: u32 = 0;
+        let mut x3: u32 = 0;
+        for j in (0..32).rev() {
+            let i = base + 4 * j;
+            x0 = self.add_met(first, last, i, x0);
+            x1 = self.add_met(first, last, i + 1, x1);
+            x2 = self.add_met(first, last, i + 2, x2);
+            x3 = self.add_met(first, last, i + 3, x3);
+        }
+        [x0, x1, x2, x3]
+    }
+
+    // Of the 32 operations from 32 v on, those in `met` of which one or operation a is a Write.
+    pub fn conflict_word(&self, a: usize, met: u32, v: usize) -> u32
+        requires { (a < 1024) × (v < 32) }
+        ensures { ConflictsIn self.now a met v result }
+    {
+        let all = 4294967295 * ((self.writes[a / 32] >> (a % 32)) % 2);
+        words::common(met, words::joined(all, self.writes[v]))
+    }
 }

@@ -91,13 +91,13 @@ module _ (t : Trace) where
 -- those below k are counted; `seen` says how many operations below k each worker has
 pub record Paired (t : Trace) (k : ℕ) (seen : List ℕ) (count : ℕ) : Type 0 where
   pub below : k ≤ size t
-  pub long : length seen ≡ 256
-  pub each : (q : ℕ) → q < 256 → get_or seen q 0 ≡ length (passing (is_of t q) k)
+  pub long : length seen ≡ 16
+  pub each : (q : ℕ) → q < 16 → get_or seen q 0 ≡ length (passing (is_of t q) k)
   pub counts : count ≡ pairs_below t k
   pub few : count ≤ 1024 * k
 
 module _ (t : Trace) {seen : List ℕ} where
-  pub paired_none : length seen ≡ 256 → ((q : ℕ) → q < 256 → get_or seen q 0 ≡ 0) → Paired t 0 seen 0
+  pub paired_none : length seen ≡ 16 → ((q : ℕ) → q < 16 → get_or seen q 0 ≡ 0) → Paired t 0 seen 0
   unfolding pairs_below
   paired_none e h =
       record {
@@ -110,10 +110,10 @@ module _ (t : Trace) {seen : List ℕ} where
 
   module _ {k count : ℕ} (p : Paired t k seen count) where
     -- worker q has no more operations below k than there are
-    pub paired-seen : (q : ℕ) → q < 256 → get_or seen q 0 ≤ k
+    pub paired-seen : (q : ℕ) → q < 16 → get_or seen q 0 ≤ k
     paired-seen q l = omega (arith, p.each q l, passing-split (is_of t q) k)
 
-    pub paired-more : {q : ℕ} → q < 256 → k < size t → size t ≤ 1024 → q ≡ worker_of t k
+    pub paired-more : {q : ℕ} → q < 16 → k < size t → size t ≤ 1024 → q ≡ worker_of t k
         → Paired t (k + 1) (set seen q (get_or seen q 0 + 1)) (count + (k - get_or seen q 0))
     unfolding pairs_below
     paired-more {q} l i m e =
@@ -132,7 +132,7 @@ module _ (t : Trace) {seen : List ℕ} where
             → length (passing (is_of t r) (k + 1)) ≡ length (passing (is_of t r) k) + bool_byte (is_of t r k)
         passing-count-at r = rw add-one (passing-count (is_of t r) k)
 
-        each : (r : ℕ) → r < 256
+        each : (r : ℕ) → r < 16
             → get_or (set seen q (get_or seen q 0 + 1)) r 0 ≡ length (passing (is_of t r) (k + 1))
         each r j = elim (equal? r q) [
           | inl z ↦

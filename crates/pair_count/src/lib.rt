@@ -2,24 +2,21 @@
 #![tactic(auto)]
 
 ghost use Rattle.std.specs.Prelude.{◌≡◌};
-ghost use Rattle.trace.specs.Reading.{reads, file_reading, trace_of};
+ghost use Rattle.trace.specs.Reading.{trace_of};
 ghost use Rattle.pair_count.specs.Pairs.{pair_count};
 
+use trace::TraceFile;
+
 // How many pairs of operations of two workers there are. There are no more races.
-pub fn pair_count(file: &[u8]) -> usize
-    requires { file_reading file.now ≡ reads (trace_of file.now) }
-    ensures { result ≡ pair_count (trace_of file.now) }
+pub fn pair_count(trace: &TraceFile<'_>) -> usize
+    ensures { result ≡ pair_count (trace_of trace.now.bytes.now) }
 {
-    let n = trace::operation_count(file) as usize;
-    let mut seen = [0usize; 256];
+    let mut seen = [0usize; 16];
     let mut count: usize = 0;
-    let mut k: usize = 0;
-    while k < n {
-        let q = basics::byte_index(trace::worker_of(file, k));
-        let same = seen[q];
-        count += k - same;
-        seen[q] = same + 1;
-        k += 1;
+    for k in 0..trace.operations as usize {
+        let q = trace.worker(k);
+        count += k - seen[q];
+        seen[q] += 1;
     }
     count
 }

@@ -1,3 +1,2 @@
--- RowStart: how the arrays begin. RowOpening: a row is opened, or passed over.
-pub mod RowStart
+-- RowOpening: a row is opened, or passed over.
 pub mod RowOpening

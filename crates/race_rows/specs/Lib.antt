@@ -1,2 +1,2 @@
--- Rows: the arrays that the rows of races are found from; means.
+-- Rows: what the rows of races are found from; means.
 pub mod Rows

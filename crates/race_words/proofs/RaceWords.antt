@@ -1,10 +1,9 @@
 -- A word of a row of races. In order: the operations after one; the races with one.
 use mathlib.Core.Bool.{Bool, true, false, not, ◌&&◌, ◌||◌, and-false}
-use mathlib.Core.List.{List}
 use mathlib.Core.Logic.{inl, inr}
 use mathlib.Core.Path.{◌≡◌, refl, sym, ap, ◌∙◌}
 use native.Mathlib.Omega.{arith}
-use Prim.Native.Nat.{ℕ, ◌+◌, ◌*◌, ◌-◌, ◌/◌, ◌%◌, ◌<◌, ◌≤◌}
+use Prim.Native.Nat.{ℕ, ◌+◌, ◌*◌, ◌/◌, ◌%◌, ◌<◌, ◌≤◌}
 use lib.Dec.{eqb, ltb}
 use lib.ListN.{get_or}
 use borrow.Author.Tests.{ltb-true, lt-ltb, le-ltb, ne_eqb}
@@ -13,9 +12,12 @@ use Rattle.trace.specs.Trace.{Trace, size, operation}
 use Rattle.words.specs.Words.{is_in, Above, Common}
 use Rattle.words.proofs.Sets.{all_in}
 use Rattle.model.specs.Computed.{unordered_in}
+use Rattle.conflicts.specs.declared.Cells.{Cells}
+use Rattle.meetings.specs.declared.Meetings.{Meetings}
+use Rattle.unordered.specs.declared.Unordered.{Unordered}
 use Rattle.conflicts.specs.Conflict.{in_conflict}
 use Rattle.conflicts.specs.Cells.{place, met_at, marked, CellsHold, ConflictsIn}
-use Rattle.conflicts.proofs.Cells.{held_first, held-last, held-met}
+use Rattle.conflicts.proofs.CellTests.{held_first, held-last, held-met}
 use Rattle.meetings.specs.Meetings.{is_noted}
 use Rattle.unordered.specs.Kept.{held}
 use Rattle.race_model.specs.RaceList.{is_race}
@@ -50,9 +52,9 @@ race-asked t a b l = go (ltb a b) (in_conflict (operation t a) (operation t b) &
     go false true = refl
     go false false = refl
 
-module _ {t : Trace} {a : ℕ} {cells kept seen : List ℕ} {w slot : ℕ} (ready : RowReady t a cells kept seen w slot)
-    {v x y z r : ℕ} (few : v < 32) (from : a / 32 ≤ v)
-    (c : ConflictsIn cells a (get_or seen (32 * slot + v) 0) v x) (f : Common x (get_or kept (32 * w + v) 0) y)
+module _ {t : Trace} {a : ℕ} {cells : Cells} {kept : Unordered} {seen : Meetings} {w slot : ℕ}
+    (ready : RowReady t a cells kept seen w slot) {v x y z r : ℕ} (few : v < 32) (from : a / 32 ≤ v)
+    (c : ConflictsIn cells a (get_or seen.met (32 * slot + v) 0) v x) (f : Common x (get_or kept.sets (32 * w + v) 0) y)
     (o : After a v z) (m : Common y z r) where
   abbrev h : ToNote t a cells kept seen w slot
   h = ready.to_note
@@ -67,13 +69,13 @@ module _ {t : Trace} {a : ℕ} {cells kept seen : List ℕ} {w slot : ℕ} (read
     bit-of : b % 32 ≡ i
     bit-of = omega arith
 
-    kept-is : is_in (get_or kept (32 * w + v) 0) i ≡ ltb b (size t) && (not (eqb a b) && unordered_in t a b)
+    kept-is : is_in (get_or kept.sets (32 * w + v) 0) i ≡ ltb b (size t) && (not (eqb a b) && unordered_in t a b)
     unfolding held
     kept-is = rw (← h.worker, word_of, bit-of) at (h.free.each b (omega arith))
 
     -- does its word of meetings hold b, with a Write among the two?
     abbrev hit : Bool
-    hit = is_in (get_or seen (32 * slot + v) 0) i && (marked cells a || marked cells b)
+    hit = is_in (get_or seen.met (32 * slot + v) 0) i && (marked cells a || marked cells b)
 
     -- what the word holds of b
     whole : is_in r i
@@ -93,7 +95,7 @@ module _ {t : Trace} {a : ℕ} {cells kept seen : List ℕ} {w slot : ℕ} (read
         hold : CellsHold t cells
         hold = h.cells_hold
 
-        by-cells : met_at cells (get_or cells (place a) 0) (get_or cells (1024 + place a) 0) (place b)
+        by-cells : met_at cells (get_or cells.first (place a) 0) (get_or cells.last (place a) 0) (place b)
             && (marked cells a || marked cells b)
             ≡ in_conflict (operation t a) (operation t b)
         by-cells =
@@ -111,8 +113,8 @@ module _ {t : Trace} {a : ℕ} {cells kept seen : List ℕ} {w slot : ℕ} (read
         noted : is_noted seen slot (b / 128) ≡ true
         noted = ready.noted b (omega arith) (omega (arith, h.few)) kept_here
 
-        met : is_in (get_or seen (32 * slot + v) 0) i
-            ≡ met_at cells (get_or cells (place a) 0) (get_or cells (1024 + place a) 0) (place b)
+        met : is_in (get_or seen.met (32 * slot + v) 0) i
+            ≡ met_at cells (get_or cells.first (place a) 0) (get_or cells.last (place a) 0) (place b)
         met =
             rw (word_of, bit-of, h.slot_for.first, h.slot_for.last) at
             (h.notes.each slot b h.slot_for.few (omega arith) noted)

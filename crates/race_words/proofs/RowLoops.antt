@@ -40,12 +40,11 @@ module _ (t : Trace) (a : ℕ) where
 
 -- the races with the operations below 32 v are counted
 pub record CountedTo (t : Trace) (a v count : ℕ) : Type 0 where
-  pub from : a / 32 ≤ v
   pub counts : count ≡ length (row_to t a v)
 
 module _ {t : Trace} {a : ℕ} where
   pub counted_start : CountedTo t a (a / 32) 0
-  counted_start = record { from = omega arith; counts = sym (ap length (row-start t a)) }
+  counted_start = record { counts = sym (ap length (row-start t a)) }
 
   module _ {v count : ℕ} (c : CountedTo t a v count) where
     pub counted-few : count ≤ 32 * v
@@ -55,7 +54,6 @@ module _ {t : Trace} {a : ℕ} where
         → CountedTo t a (v + 1) (count + more)
     counted-more {x} {more} r e =
         record {
-          from = omega (arith, c.from);
           counts =
               rw (row_more t a r, length-append, length-map (passing (is_in x) 32) (λ i. 32 * v + i))
               (omega (arith, c.counts, e));
@@ -68,7 +66,6 @@ module _ {t : Trace} {a : ℕ} where
 
 -- the races with the operations below 32 v are listed
 pub record ListedTo (t : Trace) (a v : ℕ) (row : List ℕ) (at : ℕ) : Type 0 where
-  pub from : a / 32 ≤ v
   pub long : length row ≡ 1024
   pub counts : at ≡ length (row_to t a v)
   pub front : take at row ≡ row_to t a v
@@ -77,7 +74,6 @@ module _ {t : Trace} {a : ℕ} {row : List ℕ} where
   pub listed_start : length row ≡ 1024 → ListedTo t a (a / 32) row 0
   listed_start e =
       record {
-        from = omega arith;
         long = e;
         counts = sym (ap length (row-start t a));
         front = sym (row-start t a);
@@ -96,7 +92,6 @@ module _ {t : Trace} {a : ℕ} {row : List ℕ} where
         → ListedTo t a (v + 1) row' end
     listed_more {x} r l =
         record {
-          from = omega (arith, c.from);
           long = l.long;
           counts =
               rw (row_more t a r, length-append, length-map (passing (is_in x) 32) (λ i. 32 * v + i))

@@ -3,10 +3,15 @@
 #![tactic(auto)]
 
 ghost use Rattle.std.specs.Prelude.{true, ◌≡◌, ◌/◌, ◌<◌, ◌≤◌, length};
-ghost use Rattle.trace.specs.Reading.{reads, file_reading, trace_of};
+ghost use Rattle.trace.specs.Reading.{trace_of};
 ghost use Rattle.meetings.specs.Meetings.{Notes};
 ghost use Rattle.race_model.specs.RaceRows.{race_row, RowHolds};
 ghost use Rattle.race_words.specs.RaceWords.{After, RaceWord, BlockEmpty, BlockDone, ToNote, RowReady};
+
+use conflicts::Cells;
+use meetings::Meetings;
+use trace::TraceFile;
+use unordered::Unordered;
 
 // Of the 32 operations from 32 v on, those after a.
 fn after(a: usize, v: usize) -> u32
@@ -20,126 +25,98 @@ fn after(a: usize, v: usize) -> u32
 }
 
 // Has the kept set of worker w no operation in a block?
-fn is_empty(kept: &[u32; 1536], w: usize, block: usize) -> bool
+fn is_empty(kept: &Unordered, w: usize, block: usize) -> bool
     requires { (w < 16) × (block < 8) }
     ensures { result ≡ true → BlockEmpty kept.now w block }
 {
     let at = 32 * w + 4 * block;
-    let low = words::joined(kept[at], kept[at + 1]);
-    let high = words::joined(kept[at + 2], kept[at + 3]);
+    let low = words::joined(kept.sets[at], kept.sets[at + 1]);
+    let high = words::joined(kept.sets[at + 2], kept.sets[at + 3]);
     words::joined(low, high) == 0
 }
 
 // Notes which operations of a block meet the slot's cells, if it has an operation of the kept set of worker w.
 fn note_free(
-    cells: &[u32; 2080],
-    kept: &[u32; 1536],
+    cells: &Cells,
+    kept: &Unordered,
     w: usize,
     slot: usize,
     block: usize,
-    seen: &mut [u32; 1120],
+    seen: &mut Meetings,
 )
     requires { Notes cells.now seen.old × (w < 16) × (slot < 32) × (block < 8) }
-    ensures { BlockDone cells.now kept.now seen.old w slot block
-        seen.new }
+    ensures { BlockDone cells.now kept.now seen.old w slot block seen.new }
 {
-    if is_empty(kept, w, block) {
-        return;
+    if !is_empty(kept, w, block) {
+        seen.note_block(cells, slot, block);
     }
-    meetings::note_block(cells, slot, block, seen);
 }
 
 // Notes all that row a needs: of each block from its own on that has an operation of the kept set.
 pub fn note_row(
-    file: &[u8],
-    cells: &[u32; 2080],
-    kept: &[u32; 1536],
+    trace: &TraceFile<'_>,
+    cells: &Cells,
+    kept: &Unordered,
     a: usize,
     w: usize,
     slot: usize,
-    seen: &mut [u32; 1120],
+    seen: &mut Meetings,
 )
-    requires { ToNote (trace_of file.now) a cells.now kept.now seen.old w slot
-        × (file_reading file.now ≡ reads (trace_of file.now)) }
-    ensures { RowReady (trace_of file.now) a cells.now kept.now
-        seen.new w slot }
+    requires { ToNote (trace_of trace.now.bytes.now) a cells.now kept.now seen.old w slot }
+    ensures { RowReady (trace_of trace.now.bytes.now) a cells.now kept.now seen.new w slot }
 {
-    let n = trace::operation_count(file) as usize;
-    let mut block = a / 128;
-    while 128 * block < n {
+    let n = trace.operations as usize;
+    for block in a / 128..n.div_ceil(128) {
         note_free(cells, kept, w, slot, block, seen);
-        block += 1;
     }
 }
 
-// Of the 32 operations from 32 v on, those that race with a.
-fn row_word(
-    file: &[u8],
-    cells: &[u32; 2080],
-    kept: &[u32; 1536],
-    seen: &[u32; 1120],
-    a: usize,
-    w: usize,
-    slot: usize,
-    v: usize,
-) -> u32
-    requires { RowReady (trace_of file.now) a cells.now kept.now seen.now w slot × (v < 32) × (a / 32 ≤ v) }
-    ensures { RaceWord (trace_of file.now) a v result }
-{
-    let met = meetings::met_word(seen, slot, v);
-    let conflicts = conflicts::conflict_word(cells, a, met, v);
-    let free = words::common(conflicts, kept[32 * w + v]);
-    words::common(free, after(a, v))
+// Row a of the races, ready to be read: worker w is a's, and what a's cells meet is noted in the slot.
+#[derive(Clone, Copy)]
+pub struct Row<'a> {
+    pub trace: TraceFile<'a>,
+    pub cells: &'a Cells,
+    pub kept: &'a Unordered,
+    pub seen: &'a Meetings,
+    pub a: usize,
+    pub w: usize,
+    pub slot: usize,
+    pub ghost ready: { RowReady (trace_of trace.bytes.now) a cells.now kept.now seen.now w slot },
 }
 
-// How many operations race with a, of those after it.
-pub fn count_words(
-    file: &[u8],
-    cells: &[u32; 2080],
-    kept: &[u32; 1536],
-    seen: &[u32; 1120],
-    a: usize,
-    w: usize,
-    slot: usize,
-) -> usize
-    requires { RowReady (trace_of file.now) a cells.now kept.now seen.now w slot
-        × (file_reading file.now ≡ reads (trace_of file.now)) }
-    ensures { result ≡ length (race_row (trace_of file.now) a) }
-{
-    let n = trace::operation_count(file) as usize;
-    let mut count: usize = 0;
-    let mut v = a / 32;
-    while 32 * v < n {
-        let word = row_word(file, cells, kept, seen, a, w, slot, v);
-        count += basics::wide_index(words::count(word));
-        v += 1;
+impl Row<'_> {
+    // Of the 32 operations from 32 v on, those that race with a.
+    fn word(&self, v: usize) -> u32
+        requires { (v < 32) × (self.now.a / 32 ≤ v) }
+        ensures { RaceWord (trace_of self.now.trace.bytes.now) self.now.a v result }
+    {
+        let met = self.seen.met_word(self.slot, v);
+        let conflicts = self.cells.conflict_word(self.a, met, v);
+        let free = words::common(conflicts, self.kept.sets[32 * self.w + v]);
+        words::common(free, after(self.a, v))
     }
-    count
-}
 
-// Lists the operations that race with a, of those after it, and answers how many there are.
-pub fn list_words(
-    file: &[u8],
-    cells: &[u32; 2080],
-    kept: &[u32; 1536],
-    seen: &[u32; 1120],
-    a: usize,
-    w: usize,
-    slot: usize,
-    row: &mut [u16; 1024],
-) -> usize
-    requires { RowReady (trace_of file.now) a cells.now kept.now seen.now w slot
-        × (file_reading file.now ≡ reads (trace_of file.now))
-        × (length row.old ≡ 1024) }
-    ensures { RowHolds (race_row (trace_of file.now) a) result row.new }
-{
-    let n = trace::operation_count(file) as usize;
-    let mut at: usize = 0;
-    let mut v = a / 32;
-    while 32 * v < n {
-        let word = row_word(file, cells, kept, seen, a, w, slot, v);
-        at = word_lists::list(word, 32 * v, at, row);
-        v += 1;
+    // How many operations race with a, of those after it.
+    pub fn count(&self) -> usize
+        ensures { result ≡ length (race_row (trace_of self.now.trace.bytes.now) self.now.a) }
+    {
+        let n = self.trace.operations as usize;
+        let mut count: usize = 0;
+        for v in self.a / 32..n.div_ceil(32) {
+            count += words::count(self.word(v)) as usize;
+        }
+        count
     }
-    at
+
+    // Lists the operations that race with a, of those after it, and answers how many there are.
+    pub fn list(&self, row: &mut [u16; 1024]) -> usize
+        ensures { RowHolds (race_row (trace_of self.now.trace.bytes.now) self.now.a) result row.new }
+    {
+        let n = self.trace.operations as usize;
+        let mut at: usize = 0;
+        for v in self.a / 32..n.div_ceil(32) {
+            at = word_lists::list(self.word(v), 32 * v, at, row);
+        }
+        at
+    }
 }

@@ -1,20 +1,14 @@
 -- What the inner functions know, and what they do.
 -- Follows: document 01, "Race list".
 -- Differs: nowhere. Means: the call's contract speaks of none of these.
-use Rattle.std.specs.Prelude.{cond, List, [], ◌≡◌, ℕ, ◌<◌, ◌≤◌, leb, length, get_or}
-use Rattle.trace.specs.Reading.{trace_of}
+use Rattle.std.specs.Prelude.{cond, List, [], ◌≡◌, ℕ, ◌<◌, leb, length, get_or, Option, None, Some, Result}
+use Rattle.trace.specs.declared.Refusal.{Refusal}
 use Rattle.trace.specs.Trace.{Trace, size}
 use Rattle.lent.specs.Written.{written_over}
-use Rattle.table_entries.specs.Entries.{HoldsTable}
 use Rattle.race_model.specs.RaceList.{race_list, race_count}
 use Rattle.race_model.specs.RaceRows.{race_row}
 use Rattle.races.specs.Races.{races_answer, races_listed, lowers, highers, shorter}
-use Rattle.races.specs.declared.RacesAnswer.{RacesAnswer}
-
--- `count` races can be written: none, or all, and then there is a table to find them in
-pub record Writable (bytes table : List ℕ) (count : ℕ) : Type 0 where
-  pub holds : 1 ≤ count → HoldsTable bytes table
-  pub all : 1 ≤ count → count ≡ race_count (trace_of bytes)
+use Rattle.races.specs.declared.answer.Races.{Races}
 
 -- what stands at an operation tells, where it is 0, that the operation has no race with a later one
 pub record Hints (t : Trace) (counts : List ℕ) : Type 0 where
@@ -27,12 +21,12 @@ pub record AllWritten (t : Trace) (count : ℕ) (lower lower-now higher higher-n
   pub all_lower : lower-now ≡ written_over (lowers (race_list t)) lower
   pub all_higher : higher-now ≡ written_over (highers (race_list t)) higher
 
--- a number where it is above a bound; 0 otherwise
-abbrev pub too_many : ℕ → ℕ → ℕ
-too_many count room = cond (leb count room) 0 count
+-- a number where it is above a bound
+abbrev pub too_many : ℕ → ℕ → Option ℕ
+too_many count room = cond (leb count room) None (Some count)
 
 -- the listing, where the table, of `numbers` numbers, is filled
-pub record ListsCall (bytes : List ℕ) (numbers : ℕ) (lower higher : List ℕ) (answer : RacesAnswer)
+pub record ListsCall (bytes : List ℕ) (numbers : ℕ) (lower higher : List ℕ) (answer : Result Races Refusal)
     (lower-now higher-now : List ℕ) : Type 0 where
   pub answers : answer ≡ races_answer bytes numbers (shorter (length lower) (length higher))
   pub lists_lower : lower-now

@@ -1,15 +1,16 @@
 -- The races: question 16, what the call answers, and what it leaves in lent memory.
--- Follows: document 01, "The questions" and "Race list". The enum is that of src/lib.rt.
+-- Follows: document 01, "The questions" and "Race list". The struct is that of src/lib.rt.
 -- Differs: the list of race records is two lists of numbers here, the lower and the higher operations; it holds as many
 -- records as the shorter of them holds numbers.
-use Rattle.std.specs.Prelude.{Bool, cond, List, [], ◌∷◌, map, ◌≡◌, refl, ℕ, leb, length}
+use Rattle.std.specs.Prelude.{Bool, cond, List, [], ◌∷◌, map, ◌≡◌, refl, ℕ, leb, length, Result, Ok}
+use Rattle.trace.specs.declared.Refusal.{Refusal}
+use Rattle.trace.specs.Answer.{answer_by}
 use Rattle.trace.specs.Reading.{Reading, refused, reads, then_ask}
 use Rattle.trace.specs.Trace.{Trace, size}
 use Rattle.lent.specs.Written.{written_over}
 use Rattle.order_table.specs.Table.{table_reading, table_after}
 use Rattle.race_model.specs.declared.Race.{Race}
-use Rattle.races.specs.declared.RacesAnswer.{RacesAnswer}
-use Rattle.races.specs.declared.RacesAnswer.TheVariants.{Listed, Refused}
+use Rattle.races.specs.declared.answer.Races.{Races}
 use Rattle.race_model.specs.RaceList.{pair, race_list, race_count}
 
 -- 16. "Does the lent race list hold as many records as there are races?" It holds `room` records.
@@ -21,14 +22,24 @@ races_fit room t = leb (race_count t) room
 unfoldable pub races_reading : List ℕ → ℕ → ℕ → Reading
 races_reading bytes numbers room = then_ask 16 (races_fit room) race_count (table_reading bytes numbers)
 
--- `Refused`: the number and the place. `Listed`: the worker count p, the operation count n, and the number of races:
--- "the result carries their count"
-abbrev pub answer_of : Reading → RacesAnswer
-answer_of (refused number place) = Refused number place
-answer_of (reads t) = Listed t.workers (size t) (race_count t)
+-- the worker count p, the operation count n, and the number of races: "the result carries their count"
+abbrev pub races_result : ℕ → ℕ → ℕ → Races
+races_result p n count = record { workers = p; operations = n; races = count }
+
+-- the answer with those of listed races
+abbrev pub Listed : ℕ → ℕ → ℕ → Result Races Refusal
+Listed p n count = Ok (races_result p n count)
+
+-- what the answer says of a trace
+abbrev pub races_of : Trace → Races
+races_of t = races_result t.workers (size t) (race_count t)
+
+-- that, or the refusal's number and place
+abbrev pub answer_of : Reading → Result Races Refusal
+answer_of = answer_by races_of
 
 -- what the call answers
-unfoldable pub races_answer : List ℕ → ℕ → ℕ → RacesAnswer
+unfoldable pub races_answer : List ℕ → ℕ → ℕ → Result Races Refusal
 races_answer bytes numbers room = answer_of (races_reading bytes numbers room)
 
 -- "Refused calls write nothing"
@@ -39,11 +50,6 @@ listed_by (reads t) = race_list t
 -- the races that the call lists
 unfoldable pub races_listed : List ℕ → ℕ → ℕ → List Race
 races_listed bytes numbers room = listed_by (races_reading bytes numbers room)
-
--- how many an answer lists
-abbrev pub to_write : RacesAnswer → ℕ
-to_write (Refused q k) = 0
-to_write (Listed p n count) = count
 
 -- the lower and the higher operations of races
 abbrev pub lowers : List Race → List ℕ
@@ -70,7 +76,7 @@ shorter x y = cond (leb x y) x y
 
 -- the asking and the filling, for any bytes, any table and any room: the answer, and what is in the table afterwards;
 -- "Refused calls write nothing, except that 16 leaves the table filled"
-pub record CountCall (bytes table : List ℕ) (room : ℕ) (answer : RacesAnswer) (table-now : List ℕ) : Type 0 where
+pub record CountCall (bytes table : List ℕ) (room : ℕ) (answer : Result Races Refusal) (table-now : List ℕ) : Type 0 where
   pub answers : answer ≡ races_answer bytes (length table) room
   pub leaves_table : table-now ≡ table_after bytes table
 
@@ -86,7 +92,7 @@ higher_after bytes table lower higher =
 
 -- the call's promise, for any bytes, any table and any two lists: its answer, and what is in the table and the lists
 -- afterwards
-pub record RacesCall (bytes table lower higher : List ℕ) (answer : RacesAnswer)
+pub record RacesCall (bytes table lower higher : List ℕ) (answer : Result Races Refusal)
     (table-now lower-now higher-now : List ℕ) : Type 0 where
   pub answers : answer ≡ races_answer bytes (length table) (shorter (length lower) (length higher))
   pub leaves_table : table-now ≡ table_after bytes table

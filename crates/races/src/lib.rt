@@ -2,218 +2,138 @@
 #![tactic(auto)]
 
 ghost use Rattle.std.specs.Prelude.{◌≡◌, ◌≤◌, length};
-ghost use Rattle.trace.specs.Premises.{HoldsTrace};
 ghost use Rattle.trace.specs.Reading.{trace_of};
-ghost use Rattle.table_entries.specs.Entries.{HoldsTable};
 ghost use Rattle.race_model.specs.RaceList.{race_count};
 ghost use Rattle.races.specs.Premises.{Hints, AllWritten, too_many, ListsCall};
-ghost use Rattle.races.specs.Races.{shorter, races_answer, to_write, CountCall, RacesCall};
+ghost use Rattle.races.specs.Races.{races_answer, CountCall, RacesCall};
 
-use order_table::TableAnswer;
+mod answer;
 
-// The worker count, the operation count and the number of races, all of which are listed; or the refusal.
-#[derive(Clone, Copy)]
-pub enum RacesAnswer {
-    Listed {
-        workers: u8,
-        operations: u32,
-        races: u32,
-    },
-    Refused {
-        number: u8,
-        place: u32,
-    },
-}
+pub use answer::Races;
+use race_rows::Search;
+use table_entries::FilledTable;
+use trace::{Refusal, TraceFile};
 
 // How many races there are; `counts` tells how many each operation has with later ones.
-fn count_races(file: &[u8], table: &[u16], counts: &mut [u16; 1024]) -> u32
-    requires { HoldsTable file.now table.now × (length counts.old ≡ 1024) }
-    ensures { (result ≡ race_count (trace_of file.now))
-        × Hints (trace_of file.now) counts.new }
+fn count_races(filled: &FilledTable<'_>, counts: &mut [u16; 1024]) -> u32
+    ensures { (result ≡ race_count (trace_of filled.now.trace.bytes.now))
+        × Hints (trace_of filled.now.trace.bytes.now) counts.new }
 {
-    let n = trace::operation_count(file) as usize;
-    let mut cells = [0u32; 2080];
-    let mut next = [0u32; 1024];
-    let mut kept = [0u32; 1536];
-    let mut seen = [0u32; 1120];
+    let mut search = Search::of(*filled);
     let mut count: usize = 0;
-    let mut a: usize = 0;
-    while a < n {
-        let found = race_rows::count_row(
-            file, table, a, &mut cells, &mut next, &mut kept, &mut seen,
-        );
+    for a in 0..filled.trace.operations as usize {
+        let found = search.count_row();
         counts[a] = found as u16;
         count += found;
-        a += 1;
     }
     count as u32
 }
 
 // Question 16 of a file whose table is filled, where the list holds `room` records.
-fn count_if_room(
-    file: &[u8],
-    workers: u8,
-    operations: u32,
-    table: &[u16],
-    room: usize,
-) -> RacesAnswer
-    requires { HoldsTable file.now table.now × HoldsTrace file.now workers operations }
-    ensures { result ≡ races_answer file.now (length table.now) room }
+fn count_if_room(filled: &FilledTable<'_>, room: usize) -> Result<Races, Refusal>
+    ensures { result ≡ races_answer filled.now.trace.bytes.now (length filled.now.table.now) room }
 {
     let mut counts = [0u16; 1024];
-    let count = count_races(file, table, &mut counts);
-    if count as usize <= room {
-        return RacesAnswer::Listed {
-            workers: workers,
-            operations: operations,
-            races: count,
-        };
+    let races = count_races(filled, &mut counts);
+    if races as usize <= room {
+        return Ok(Races {
+            workers: filled.trace.workers,
+            operations: filled.trace.operations,
+            races,
+        });
     }
-    RacesAnswer::Refused {
+    Err(Refusal {
         number: 16,
-        place: count,
-    }
+        place: races,
+    })
 }
 
 // Asks the file's questions, 11 and 16, where the list holds `room` records; the table is filled where those before 16
 // do not refuse.
-pub fn fill_and_count(file: &[u8], table: &mut [u16], room: usize) -> RacesAnswer
+pub fn fill_and_count(file: &[u8], table: &mut [u16], room: usize) -> Result<Races, Refusal>
     ensures { CountCall file.now table.old room result table.new }
 {
-    match order_table::order_table(file, table) {
-        TableAnswer::Filled {
-            workers,
-            operations,
-        } => count_if_room(file, workers, operations, table, room),
-        TableAnswer::Refused { number, place } => RacesAnswer::Refused {
-            number: number,
-            place: place,
-        },
-    }
-}
-
-// How many races an answer lists.
-pub fn to_write(answer: RacesAnswer) -> usize
-    ensures { result ≡ to_write answer }
-{
-    match answer {
-        RacesAnswer::Listed {
-            workers: _,
-            operations: _,
-            races,
-        } => races as usize,
-        RacesAnswer::Refused {
-            number: _,
-            place: _,
-        } => 0,
-    }
+    order_table::order_table(file, table)?;
+    let trace = TraceFile::of(file);
+    count_if_room(&FilledTable { trace, table }, room)
 }
 
 // Writes all races, their lower operations and their higher ones, and answers how many there are. `counts` may tell
 // which operations have none.
 fn write_rows(
-    file: &[u8],
-    table: &[u16],
+    filled: &FilledTable<'_>,
     counts: &[u16; 1024],
     lower: &mut [u16],
     higher: &mut [u16],
 ) -> u32
-    requires { HoldsTable file.now table.now × Hints (trace_of file.now) counts.now
-        × (race_count (trace_of file.now) ≤ length lower.old)
-        × (race_count (trace_of file.now) ≤ length higher.old) }
-    ensures { AllWritten (trace_of file.now) result lower.old lower.new
-        higher.old higher.new }
+    requires { Hints (trace_of filled.now.trace.bytes.now) counts.now
+        × (race_count (trace_of filled.now.trace.bytes.now) ≤ length lower.old)
+        × (race_count (trace_of filled.now.trace.bytes.now) ≤ length higher.old) }
+    ensures { AllWritten (trace_of filled.now.trace.bytes.now) result lower.old lower.new higher.old higher.new }
 {
-    let n = trace::operation_count(file) as usize;
-    let mut cells = [0u32; 2080];
-    let mut next = [0u32; 1024];
-    let mut kept = [0u32; 1536];
-    let mut seen = [0u32; 1120];
+    let n = filled.trace.operations as usize;
+    let mut search = Search::of(*filled);
     let mut row = [0u16; 1024];
     let mut at: usize = 0;
-    let mut a: usize = 0;
-    while a < n {
-        let count = race_rows::list_row(
-            file, table, a, counts[a], &mut cells, &mut next, &mut kept, &mut seen, &mut row,
-        );
+    for a in 0..n {
+        let count = search.list_row(counts[a], &mut row);
         list_writer::fill(lower, at, count, a as u16);
         list_writer::copy(higher, at, count, &row);
         at += count;
-        a += 1;
     }
     at as u32
 }
 
-// The shorter of two lengths.
-fn shorter_of(x: usize, y: usize) -> usize
-    ensures { result ≡ shorter x y }
+// The number of races where they are more than `room`. They are counted only if they can be more.
+fn too_many(filled: &FilledTable<'_>, room: usize, counts: &mut [u16; 1024]) -> Option<u32>
+    requires { Hints (trace_of filled.now.trace.bytes.now) counts.old }
+    ensures { (result ≡ too_many (race_count (trace_of filled.now.trace.bytes.now)) room)
+        × Hints (trace_of filled.now.trace.bytes.now) counts.new }
 {
-    if x <= y {
-        return x;
+    if pair_count::pair_count(&filled.trace) <= room {
+        return None;
     }
-    y
-}
-
-// The number of races where they are more than `room`; 0 otherwise. They are counted only if they can be more.
-fn too_many(file: &[u8], table: &[u16], room: usize, counts: &mut [u16; 1024]) -> u32
-    requires { HoldsTable file.now table.now × Hints (trace_of file.now) counts.old }
-    ensures { (result ≡ too_many (race_count (trace_of file.now)) room)
-        × Hints (trace_of file.now) counts.new }
-{
-    if pair_count::pair_count(file) <= room {
-        return 0;
-    }
-    let count = count_races(file, table, counts);
+    let count = count_races(filled, counts);
     if room < count as usize {
-        return count;
+        return Some(count);
     }
-    0
+    None
 }
 
 // Question 16 of a file whose table is filled; where it does not refuse, the races.
 fn list_if_room(
-    file: &[u8],
-    workers: u8,
-    operations: u32,
-    table: &[u16],
+    filled: &FilledTable<'_>,
     lower: &mut [u16],
     higher: &mut [u16],
-) -> RacesAnswer
-    requires { HoldsTable file.now table.now × HoldsTrace file.now workers operations }
-    ensures { ListsCall file.now (length table.now) lower.old
-        higher.old result lower.new higher.new }
+) -> Result<Races, Refusal>
+    ensures { ListsCall filled.now.trace.bytes.now (length filled.now.table.now) lower.old higher.old result
+        lower.new higher.new }
 {
-    let room = shorter_of(lower.len(), higher.len());
+    let room = lower.len().min(higher.len());
     let mut counts = [1u16; 1024];
-    let refused = too_many(file, table, room, &mut counts);
-    if 0 < refused {
-        return RacesAnswer::Refused {
-            number: 16,
-            place: refused,
-        };
+    let refused = too_many(filled, room, &mut counts);
+    if let Some(place) = refused {
+        return Err(Refusal { number: 16, place });
     }
-    let count = write_rows(file, table, &counts, lower, higher);
-    RacesAnswer::Listed {
-        workers: workers,
-        operations: operations,
-        races: count,
-    }
+    let races = write_rows(filled, &counts, lower, higher);
+    Ok(Races {
+        workers: filled.trace.workers,
+        operations: filled.trace.operations,
+        races,
+    })
 }
 
 // Asks the file's questions, 11 and 16, of any bytes, any table and any two lists; where none refuses, the races, and
 // the order table; where 16 does, the order table.
-pub fn races(file: &[u8], table: &mut [u16], lower: &mut [u16], higher: &mut [u16]) -> RacesAnswer
-    ensures { RacesCall file.now table.old lower.old higher.old result
-        table.new lower.new higher.new }
+pub fn races(
+    file: &[u8],
+    table: &mut [u16],
+    lower: &mut [u16],
+    higher: &mut [u16],
+) -> Result<Races, Refusal>
+    ensures { RacesCall file.now table.old lower.old higher.old result table.new lower.new higher.new }
 {
-    match order_table::order_table(file, table) {
-        TableAnswer::Filled {
-            workers,
-            operations,
-        } => list_if_room(file, workers, operations, table, lower, higher),
-        TableAnswer::Refused { number, place } => RacesAnswer::Refused {
-            number: number,
-            place: place,
-        },
-    }
+    order_table::order_table(file, table)?;
+    let trace = TraceFile::of(file);
+    list_if_room(&FilledTable { trace, table }, lower, higher)
 }

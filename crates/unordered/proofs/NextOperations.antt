@@ -3,57 +3,40 @@ use mathlib.Core.List.{List}
 use mathlib.Core.Logic.{inl, inr, ◌≢◌}
 use mathlib.Core.Path.{◌≡◌, refl, sym, ap, ◌∙◌}
 use native.Mathlib.Omega.{arith}
-use Prim.Native.Nat.{ℕ, ◌+◌, ◌-◌, ◌<◌, ◌≤◌}
-use lib.ListN.{get_or, set, length-set}
+use Prim.Native.Nat.{ℕ, ◌+◌, ◌<◌, ◌≤◌}
+use lib.ListN.{length, get_or, set, length-set}
 use lib.Seq.{get_or-set_same, get_or-set_other}
 use Rattle.basics.proofs.Booleans.{equal?}
-use Rattle.trace.specs.Reading.{trace_of}
 use Rattle.trace.specs.Trace.{Trace, size, worker_of}
-use Rattle.trace.proofs.Answers.{file-holds}
-use Rattle.unordered.specs.Beginning.{NothingRead, ReadFrom}
+use Rattle.unordered.specs.Beginning.{ReadFrom}
 use Rattle.unordered.specs.Kept.{EndAt, NextAt, HoldsNext}
 
 -- there is none
 pub none-at : {t : Trace} (q : ℕ) → size t ≤ 1024 → EndAt t q 1024
 none-at q few = record { own = λ l. absurd (omega arith); end = λ l. refl }
 
-module _ {bytes next firsts : List ℕ} (r : NothingRead bytes next firsts) where
-  pub read-few : size (trace_of bytes) ≤ 1024
-  read-few = (file-holds bytes (trace_of bytes) r.trace).few
-
-  pub read-worker : (k : ℕ) → k < size (trace_of bytes) → worker_of (trace_of bytes) k < 16
-  read-worker k l =
-      let h = file-holds bytes (trace_of bytes) r.trace in
-      omega (arith, (h.each k l).worker, h.most)
-
-  -- the worker that is read is one of sixteen
-  pub read_known : {left : ℕ} {next' firsts' : List ℕ} {worker q : ℕ} → ReadFrom (trace_of bytes) left next' firsts'
-      → 1 ≤ left → worker ≡ worker_of (trace_of bytes) (left - 1) → q ≡ worker → q < 16
-  read_known {left} s l e f = omega (arith, read-worker (left - 1) (omega (arith, s.below)), e, f)
-
-  pub read-start : ReadFrom (trace_of bytes) (size (trace_of bytes)) next firsts
-  read-start =
-      record {
-        below = omega arith;
-        long = r.long;
-        firsts_long = r.firsts_long;
-        first = λ q l.
-            rw (r.none q l)
-            (record {
-              place = none-at q read-few;
-              ahead = read-few;
-              least = λ i m. absurd (omega (arith, i.below));
-            });
-        nexts = λ j l m. absurd (omega arith);
-      }
+pub read-start : {t : Trace} {next firsts : List ℕ} → size t ≤ 1024 → length firsts ≡ 16 → ((q : ℕ) → q < 16 → get_or firsts q 0 ≡ 1024)
+    → ReadFrom t (size t) next firsts
+read-start few long none =
+    record {
+      below = omega arith;
+      firsts_long = long;
+      first = λ q l.
+          rw (none q l)
+          (record {
+            place = none-at q few;
+            ahead = few;
+            least = λ i m. absurd (omega (arith, i.below));
+          });
+      nexts = λ j l m. absurd (omega arith);
+    }
 
 module _ {t : Trace} {left : ℕ} {next firsts : List ℕ} (s : ReadFrom t left next firsts) where
-  pub read_more : {k q : ℕ} → size t ≤ 1024 → left ≡ k + 1 → q ≡ worker_of t k → q < 16
-      → ReadFrom t k (set next k (get_or firsts q 0)) (set firsts q k)
-  read_more {k} {q} few e w q-few =
+  pub read_more : {k q : ℕ} → size t ≤ 1024 → length next ≡ 1024 → left ≡ k + 1
+      → q ≡ worker_of t k → q < 16 → ReadFrom t k (set next k (get_or firsts q 0)) (set firsts q k)
+  read_more {k} {q} few long e w q-few =
       record {
         below = omega (arith, s.below);
-        long = simp length-set s.long;
         firsts_long = simp length-set s.firsts_long;
         first = first-from;
         nexts = nexts;
@@ -88,7 +71,7 @@ module _ {t : Trace} {left : ℕ} {next firsts : List ℕ} (s : ReadFrom t left 
       nexts : (j : ℕ) → k ≤ j → j < size t → NextAt t (worker_of t j) (j + 1) (get_or (set next k (get_or firsts q 0)) j 0)
       nexts j l m = elim (equal? j k) [
         | inl z ↦
-            rw (z, get_or-set_same next k (get_or firsts q 0) 0 (omega (arith, s.long, inside)), ← w)
+            rw (z, get_or-set_same next k (get_or firsts q 0) 0 (omega (arith, long, inside)), ← w)
             (rw e at (s.first q q-few))
         | inr z ↦
             rw (get_or-set_other next k j (get_or firsts q 0) 0 z) (s.nexts j (omega (arith, z)) m)
@@ -97,4 +80,4 @@ module _ {t : Trace} {left : ℕ} {next firsts : List ℕ} (s : ReadFrom t left 
   pub read-end : left < 1 → HoldsNext t next × ReadFrom t 0 next firsts
   read-end l =
       let e : left ≡ 0 = omega arith in
-      (record { long = s.long; each = λ k m. s.nexts k (omega arith) m }, rw e at s)
+      (record { each = λ k m. s.nexts k (omega arith) m }, rw e at s)

@@ -11,18 +11,19 @@ use Rattle.basics.proofs.Booleans.{equal?, less?}
 use Rattle.trace.specs.Reading.{trace_of}
 use Rattle.trace.specs.Trace.{Trace, size, worker_of}
 use Rattle.model.specs.Computed.{must_precede_in, unordered_in}
+use Rattle.unordered.specs.declared.Unordered.{Unordered}
 use Rattle.unordered.specs.Kept.{IsOf, held, low_of, between, Ends, Kept, AllRanks}
 use Rattle.unordered.specs.Kept.{Carried, Now}
-use Rattle.unordered.specs.Turns.{Place, Settled, Turn}
+use Rattle.unordered.specs.Turns.{Settled, Turn}
 use Rattle.unordered.proofs.Ends.{of-few}
-use Rattle.unordered.proofs.Entries.{place-given}
+use Rattle.unordered.proofs.Entries.{Place, place-given}
 use Rattle.unordered.proofs.Order.{Given, certain-own}
 
 pub and-false : (b : Bool) → b && false ≡ false
 and-false true = refl
 and-false false = refl
 
-pub turn-start : {t : Trace} {a w : ℕ} {kept : List ℕ} → Kept t a kept → Turn t a w 0 kept
+pub turn-start : {t : Trace} {a w : ℕ} {kept : Unordered} → Kept t a kept → Turn t a w 0 kept
 turn-start k = record { state = k; settled = λ r l. absurd (omega arith) }
 
 module _ (t : Trace) (a b : ℕ) where
@@ -52,7 +53,7 @@ settled-between {t} {a} {low = low} {high} {b} turn d e s i = go (less? b high) 
           unordered-neither t a b (e.not_after d i m turn (omega arith)) (s.behind i r m),
         )
 
-module _ {t : Trace} (g : Given t) {a w : ℕ} (turn : IsOf t w a) {kept : List ℕ}
+module _ {t : Trace} (g : Given t) {a w : ℕ} (turn : IsOf t w a) {kept : Unordered}
     (s : Turn t a w t.workers kept) where
   later-ends : {v q low high : ℕ} → Ends t a v q low high → Ends t (a + 1) v q low high
   later-ends e =
@@ -68,7 +69,7 @@ module _ {t : Trace} (g : Given t) {a w : ℕ} (turn : IsOf t w a) {kept : List 
   turn-later : Kept t (a + 1) kept
   turn-later =
       record {
-        long = s.state.long;
+        nexts = s.state.nexts;
         ends = λ v q i j. later-ends (s.state.ends v q i j);
         sets = λ v i o. s.state.sets v i o;
         rest = s.state.rest;
@@ -107,13 +108,10 @@ module _ {t : Trace} (g : Given t) {a w : ℕ} (turn : IsOf t w a) {kept : List 
   turn_end : Kept t (a + 1) kept × Now t a kept
   turn_end = (turn-later, turn-now)
 
--- with the counts that the code has read
-pub turn-all : {t : Trace} {a w q p : ℕ} {kept : List ℕ} → q ≤ p → p ≤ q → Turn t a w q kept → Turn t a w p kept
-turn-all {q = q} {p} m o s = let e : q ≡ p = omega arith in rw e at s
-
-pub turn-done : {bytes table next : List ℕ} {p n a w : ℕ} {kept : List ℕ} → Place bytes table next p n a w
-    → Turn (trace_of bytes) a w p kept → AllRanks (trace_of bytes) table kept
+-- with the count that the code has read
+pub turn-done : {bytes table : List ℕ} {n a w : ℕ} {kept : Unordered} → Place bytes table n a w
+    → Turn (trace_of bytes) a w (trace_of bytes).workers kept → AllRanks (trace_of bytes) table kept
     → Carried (trace_of bytes) table (a + 1) kept × Now (trace_of bytes) a kept
 turn-done l s r =
-    let (state, set) = turn_end (place-given l) l.turn (rw l.workers at s) in
+    let (state, set) = turn_end (place-given l) l.turn s in
     (record { state = state; ranks = r }, set)

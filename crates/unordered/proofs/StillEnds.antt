@@ -13,10 +13,11 @@ use borrow.Author.Tests.{ltb-false, leb-false}
 use mir.Val.{bool_byte}
 use Rattle.basics.proofs.Booleans.{equal?}
 use Rattle.trace.specs.Reading.{trace_of}
+use Rattle.unordered.specs.declared.Unordered.{Unordered}
 use Rattle.unordered.specs.Kept.{low_of, high_of, rank_at, due_of, gone_of, Carried}
-use Rattle.unordered.specs.Turns.{Place, Turn, Still, AllStill, moves_bit}
+use Rattle.unordered.specs.Turns.{Turn, Still, AllStill, moves_bit}
 use Rattle.unordered.proofs.Ends.{of-few}
-use Rattle.unordered.proofs.Entries.{place-given}
+use Rattle.unordered.proofs.Entries.{Place, place-given}
 use Rattle.unordered.proofs.Loops.{in_end, out-end}
 use Rattle.unordered.proofs.Ranks.{ranks-but}
 use Rattle.unordered.proofs.Results.{turn-start}
@@ -31,14 +32,14 @@ byte-false true e = absurd (omega arith)
 byte-false false e = refl
 
 -- where `any` is 0, nothing moves for the workers below q
-pub record Asked (table kept : List ℕ) (p a w q any : ℕ) : Type 0 where
+pub record Asked (table : List ℕ) (kept : Unordered) (p a w q any : ℕ) : Type 0 where
   pub below : q ≤ p
   pub still : any ≡ 0 → (r : ℕ) → r < q → Still table kept p a w r
 
-pub ask-start : {table kept : List ℕ} {p a w : ℕ} → Asked table kept p a w 0 0
+pub ask-start : {table : List ℕ} {kept : Unordered} {p a w : ℕ} → Asked table kept p a w 0 0
 ask-start = record { below = omega arith; still = λ e r l. absurd (omega arith) }
 
-module _ {table kept : List ℕ} {p a w q any : ℕ} (s : Asked table kept p a w q any) where
+module _ {table : List ℕ} {kept : Unordered} {p a w q any : ℕ} (s : Asked table kept p a w q any) where
   pub ask-more : {bound due own gone bit : ℕ} → q < p → bound ≡ get_or table (a * p + q) 0 → due ≡ due_of kept w q
       → own ≡ get_or table (a * p + w) 0 → gone ≡ gone_of kept w q → bit ≡ moves_bit bound due own gone
       → Asked table kept p a w (q + 1) (bit_or any bit)
@@ -65,34 +66,37 @@ module _ {table kept : List ℕ} {p a w q any : ℕ} (s : Asked table kept p a w
 
 -- ---- the turn's end without a move
 
-module _ {bytes table next : List ℕ} {p n a w : ℕ} (l : Place bytes table next p n a w) {kept : List ℕ}
-    (c : Carried (trace_of bytes) table a kept) (s : AllStill table kept p a w) where
-  still-turn : (q : ℕ) → q ≤ p → w < p → Turn (trace_of bytes) a w q kept
-  still-turn zero few own = turn-start c.state
-  still-turn (suc q) few own = rw (← add-one q) (more (still-turn q (omega arith) own))
-    where
-      here : Still table kept p a w q
-      here = s.each q (omega arith)
+module _ {bytes table : List ℕ} {n a w : ℕ} (l : Place bytes table n a w) {kept : Unordered}
+    (c : Carried (trace_of bytes) table a kept) (s : AllStill table kept (trace_of bytes).workers a w)
+  where
+    abbrev p : ℕ
+    p = (trace_of bytes).workers
 
-      due : get_or table (a * p + q) 0 ≤ rank_at table p n (high_of kept w q) q
-      due =
-          let kept-due = (c.ranks.each w q (omega (arith, l.workers)) (omega (arith, l.workers))).due in
-          let same = rw (← l.workers, ← l.count) at kept-due in
-          omega (arith, here.due, same)
+    own : w < p
+    own = of-few (place-given l) l.turn
 
-      gone : get_or table (a * p + w) 0 < rank_at table p (high_of kept w q) (low_of kept w q) w
-      gone =
-          let kept-gone = (c.ranks.each w q (omega (arith, l.workers)) (omega (arith, l.workers))).gone in
-          let same = rw (← l.workers) at kept-gone in
-          omega (arith, here.gone, same)
+    still-turn : (q : ℕ) → q ≤ p → Turn (trace_of bytes) a w q kept
+    still-turn zero few = turn-start c.state
+    still-turn (suc q) few = rw (← add-one q) (more (still-turn q (omega arith)))
+      where
+        here : Still table kept p a w q
+        here = s.each q (omega arith)
 
-      more : Turn (trace_of bytes) a w q kept → Turn (trace_of bytes) a w (q + 1) kept
-      more t =
-          let (turn, ahead, ranks) = in_end l (omega arith)
-          (record { turn = t; end = refl; rank = refl; ranks = ranks-but w q c.ranks }) refl due in
-          (out-end l (omega arith)
-          (record { turn = turn; ahead = ahead; high_end = refl; end = refl; rank = refl; ranks = ranks })
-          refl gone).0
+        due : get_or table (a * p + q) 0 ≤ rank_at table p n (high_of kept w q) q
+        due =
+            let same = rw (← l.count) at (c.ranks.each w q own (omega arith)).due in
+            omega (arith, here.due, same)
 
-  pub still-done : Turn (trace_of bytes) a w p kept
-  still-done = still-turn p (omega arith) (omega (arith, of-few (place-given l) l.turn, l.workers))
+        gone : get_or table (a * p + w) 0 < rank_at table p (high_of kept w q) (low_of kept w q) w
+        gone = omega (arith, here.gone, (c.ranks.each w q own (omega arith)).gone)
+
+        more : Turn (trace_of bytes) a w q kept → Turn (trace_of bytes) a w (q + 1) kept
+        more t =
+            let (turn, ahead, ranks) = in_end l (omega arith)
+            (record { turn = t; end = refl; rank = refl; ranks = ranks-but w q c.ranks }) refl due in
+            (out-end l (omega arith)
+            (record { turn = turn; ahead = ahead; high_end = refl; end = refl; rank = refl; ranks = ranks })
+            refl gone).0
+
+    pub still-done : Turn (trace_of bytes) a w p kept
+    still-done = still-turn p (omega arith)

@@ -1,18 +1,18 @@
 -- Operations taken in and let out. In order: a state with one pair of ends moved; an operation taken in, one let out.
 use mathlib.Core.Bool.{Bool, true, false, not, ◌&&◌, ◌||◌}
-use mathlib.Core.List.{List}
 use mathlib.Core.Logic.{inl, inr, ◌≢◌}
-use mathlib.Core.Path.{◌≡◌, sym, ap, ◌∙◌}
+use mathlib.Core.Path.{◌≡◌, refl, sym, ap, ◌∙◌}
 use native.Mathlib.Omega.{arith}
 use Prim.Native.Nat.{ℕ, ◌+◌, ◌*◌, ◌/◌, ◌%◌, ◌<◌, ◌≤◌}
 use lib.Dec.{eqb}
-use lib.ListN.{length, get_or, set, length-set}
+use lib.ListN.{length, get_or, set}
 use lib.Seq.{get_or-set_same, get_or-set_other}
 use borrow.Author.Tests.{ne_eqb}
 use Rattle.basics.proofs.Booleans.{equal?}
 use Rattle.trace.specs.Trace.{Trace, size, worker_of}
 use Rattle.model.specs.Computed.{must_precede_in}
 use Rattle.words.specs.Words.{With, Without}
+use Rattle.unordered.specs.declared.Unordered.{Unordered}
 use Rattle.unordered.specs.Kept.{IsOf, NextAt, held, low_of, high_of, between, Ends}
 use Rattle.unordered.specs.Turns.{Turn}
 use Rattle.unordered.proofs.Ends.{of-few, more-ends, less-ends, between_more, between-less}
@@ -22,14 +22,15 @@ use Rattle.unordered.proofs.Order.{Given}
 -- ---- a state with one pair of ends moved
 
 -- the ends of the other pairs, and the other sets, are as they were
-pub record Moved (t : Trace) (w q : ℕ) (kept kept' : List ℕ) : Type 0 where
-  pub long : length kept' ≡ 1536
+pub record Moved (t : Trace) (w q : ℕ) (kept kept' : Unordered) : Type 0 where
+  pub next_same : kept'.next ≡ kept.next
   pub low : (v r : ℕ) → v < 16 → r < 16 → 16 * v + r ≢ 16 * w + q → low_of kept' v r ≡ low_of kept v r
   pub high : (v r : ℕ) → v < 16 → r < 16 → 16 * v + r ≢ 16 * w + q → high_of kept' v r ≡ high_of kept v r
   pub sets : (v b : ℕ) → v ≢ w → v < 16 → b < 1024 → held kept' v b ≡ held kept v b
-  pub rest : (j : ℕ) → 1024 ≤ j → get_or kept' j 0 ≡ get_or kept j 0
+  pub due_same : kept'.due ≡ kept.due
+  pub gone_same : kept'.gone ≡ kept.gone
 
-module _ {t : Trace} (g : Given t) {a w q : ℕ} (turn : IsOf t w a) (few : q < t.workers) {kept kept' : List ℕ}
+module _ {t : Trace} (g : Given t) {a w q : ℕ} (turn : IsOf t w a) (few : q < t.workers) {kept kept' : Unordered}
     (s : Turn t a w q kept) (m : Moved t w q kept kept') where
   turn_moved : Ends t a w q (low_of kept' w q) (high_of kept' w q)
       → ((r b : ℕ) → IsOf t r b → held kept' w b ≡ between (low_of kept' w r) (high_of kept' w r) b)
@@ -37,7 +38,7 @@ module _ {t : Trace} (g : Given t) {a w q : ℕ} (turn : IsOf t w a) (few : q < 
       → Turn t a w q kept'
   turn_moved e here past =
       record {
-        state = record { long = m.long; ends = ends; sets = sets; rest = rest };
+        state = record { nexts = rw m.next_same s.state.nexts; ends = ends; sets = sets; rest = rest };
         settled = λ r l.
             rw (
               m.low w r (omega (arith, of-few g turn, g.most)) (omega (arith, g.most)) (λ z. omega (arith, z)),
@@ -81,142 +82,158 @@ module _ {t : Trace} (g : Given t) {a w q : ℕ} (turn : IsOf t w a) (few : q < 
 
 -- ---- an operation taken in, one let out
 
-pub twice-other : (l : List ℕ) (i j k x y : ℕ) → k ≢ i → k ≢ j → get_or (set (set l i x) j y) k 0 ≡ get_or l k 0
-twice-other l i j k x y m n = get_or-set_other (set l i x) j k y 0 n ∙ get_or-set_other l i k x 0 m
+-- how long the arrays are
+pub record Sized (kept : Unordered) : Type 0 where
+  pub sets : length kept.sets ≡ 512
+  pub high : length kept.high ≡ 256
+  pub low : length kept.low ≡ 256
 
-module _ {t : Trace} (g : Given t) {a w q : ℕ} (turn : IsOf t w a) (few : q < t.workers) {kept : List ℕ}
-    (s : Turn t a w q kept) {k : ℕ} (o : IsOf t q k) where
-  w-few : w < 16
-  w-few = omega (arith, of-few g turn, g.most)
+-- a word of w's set and one end stored
+abbrev pub taken : Unordered → ℕ → ℕ → ℕ → ℕ → ℕ → Unordered
+taken kept w q k x y =
+    record {
+      next = kept.next;
+      sets = set kept.sets (32 * w + k / 32) x;
+      high = set kept.high (16 * w + q) y;
+      low = kept.low;
+      due = kept.due;
+      gone = kept.gone;
+    }
 
-  q-few : q < 16
-  q-few = omega (arith, g.most)
+abbrev pub left : Unordered → ℕ → ℕ → ℕ → ℕ → ℕ → Unordered
+left kept w q k x y =
+    record {
+      next = kept.next;
+      sets = set kept.sets (32 * w + k / 32) x;
+      high = kept.high;
+      low = set kept.low (16 * w + q) y;
+      due = kept.due;
+      gone = kept.gone;
+    }
 
-  at-few : 32 * w + k / 32 < 512
-  at-few = omega (arith, w-few, o.below, g.few)
+module _ {t : Trace} (g : Given t) {a w q : ℕ} (turn : IsOf t w a) (few : q < t.workers) {kept : Unordered}
+    (s : Turn t a w q kept) {k : ℕ} (o : IsOf t q k)
+  where
+    w-few : w < 16
+    w-few = omega (arith, of-few g turn, g.most)
 
-  -- a word of w's set and one end stored
-  stored : (i x y : ℕ) → 512 ≤ i → i < 1024
-      → ((v r : ℕ) → v < 16 → r < 16 → 16 * v + r ≢ 16 * w + q → (768 + 16 * v + r ≢ i) × (512 + 16 * v + r ≢ i))
-      → Moved t w q kept (set (set kept (32 * w + k / 32) x) i y)
-  stored i x y past below apart =
-      record {
-        long = simp length-set s.state.long;
-        low = λ v r l m n.
-            twice-other kept _ i _ x y (λ z. omega (arith, z, at-few)) (apart v r l m n).0;
-        high = λ v r l m n.
-            twice-other kept _ i _ x y (λ z. omega (arith, z, at-few)) (apart v r l m n).1;
-        sets = λ v b n l m.
-            held-elsewhere (set kept (32 * w + k / 32) x) i y v b (λ z. omega (arith, z))
-            ∙ held-elsewhere kept (32 * w + k / 32) x v b
-            (λ z. n (omega (arith, z, o.below, g.few)));
-        rest = λ j l. twice-other kept _ i j x y (λ z. omega (arith, z, at-few)) (λ z. omega (arith, z));
-      }
+    q-few : q < 16
+    q-few = omega (arith, g.most)
 
-  pub take-moved : (x y : ℕ) → Moved t w q kept (set (set kept (32 * w + k / 32) x) (512 + 16 * w + q) y)
-  take-moved x y =
-      stored (512 + 16 * w + q) x y (omega arith) (omega (arith, w-few, q-few))
-      (λ v r h l d. (λ z. omega (arith, z, w-few, q-few), λ z. d (omega (arith, z))))
+    at-few : 32 * w + k / 32 < 512
+    at-few = omega (arith, w-few, o.below, g.few)
 
-  pub let-moved : (x y : ℕ) → Moved t w q kept (set (set kept (32 * w + k / 32) x) (768 + 16 * w + q) y)
-  let-moved x y =
-      stored (768 + 16 * w + q) x y (omega arith) (omega (arith, w-few, q-few))
-      (λ v r h l d. (λ z. d (omega (arith, z)), λ z. omega (arith, z, w-few, q-few)))
+    -- the other sets
+    sets-moved : (kept' : Unordered) (x : ℕ) → kept'.sets ≡ set kept.sets (32 * w + k / 32) x
+        → (v b : ℕ) → v ≢ w → v < 16 → b < 1024 → held kept' v b ≡ held kept v b
+    sets-moved kept' x e v b n l m =
+        held-elsewhere kept kept' (32 * w + k / 32) x v b e (λ z. n (omega (arith, z, o.below, g.few)))
 
-  -- the set holds k, and the high end is y
-  pub take-one : {x y : ℕ} → k ≡ high_of kept w q → must_precede_in t a k ≡ false → NextAt t q (k + 1) y
-      → With (get_or kept (32 * w + k / 32) 0) (k % 32) x
-      → Turn t a w q (set (set kept (32 * w + k / 32) x) (512 + 16 * w + q) y)
-  take-one {x} {y} e un n sx = turn_moved g turn few s m ends here past
-    where
-      kept' : List ℕ
-      kept' = set (set kept (32 * w + k / 32) x) (512 + 16 * w + q) y
+    pub take-moved : (x y : ℕ) → Moved t w q kept (taken kept w q k x y)
+    take-moved x y =
+        record {
+          next_same = refl;
+          low = λ v r l m n. refl;
+          high = λ v r l m n. get_or-set_other kept.high (16 * w + q) (16 * v + r) y 0 n;
+          sets = sets-moved _ x refl;
+          due_same = refl;
+          gone_same = refl;
+        }
 
-      m : Moved t w q kept kept'
-      m = take-moved x y
+    pub let-moved : (x y : ℕ) → Moved t w q kept (left kept w q k x y)
+    let-moved x y =
+        record {
+          next_same = refl;
+          low = λ v r l m n. get_or-set_other kept.low (16 * w + q) (16 * v + r) y 0 n;
+          high = λ v r l m n. refl;
+          sets = sets-moved _ x refl;
+          due_same = refl;
+          gone_same = refl;
+        }
 
-      low : low_of kept' w q ≡ low_of kept w q
-      low = twice-other kept _ _ _ x y (λ z. omega (arith, z, at-few)) (λ z. omega (arith, z))
+    -- the set holds k, and the high end is y
+    pub take-one : {x y : ℕ} → Sized kept → k ≡ high_of kept w q → must_precede_in t a k ≡ false → NextAt t q (k + 1) y
+        → With (get_or kept.sets (32 * w + k / 32) 0) (k % 32) x → Turn t a w q (taken kept w q k x y)
+    take-one {x} {y} sized e un n sx = turn_moved g turn few s m ends here past
+      where
+        kept' : Unordered
+        kept' = taken kept w q k x y
 
-      high : high_of kept' w q ≡ y
-      high = get_or-set_same (set kept (32 * w + k / 32) x) (512 + 16 * w + q) y 0
-          (simp length-set (omega (arith, s.state.long, w-few, q-few)))
+        m : Moved t w q kept kept'
+        m = take-moved x y
 
-      old : Ends t a w q (low_of kept w q) k
-      old = rw e (s.state.ends w q (of-few g turn) few)
+        high : high_of kept' w q ≡ y
+        high = get_or-set_same kept.high (16 * w + q) y 0 (omega (arith, sized.high, w-few, q-few))
 
-      ends : Ends t a w q (low_of kept' w q) (high_of kept' w q)
-      ends = rw (low, high) (more-ends g turn old o.below un n)
+        old : Ends t a w q (low_of kept w q) k
+        old = rw e (s.state.ends w q (of-few g turn) few)
 
-      bit : (b : ℕ) → b < 1024 → held kept' w b ≡ held kept w b || eqb b k
-      bit b l =
-          held-elsewhere (set kept (32 * w + k / 32) x) (512 + 16 * w + q) y w b (λ z. omega (arith, z, w-few))
-          ∙ held_with kept w k x (omega (arith, at-few, s.state.long)) sx b
+        ends : Ends t a w q (low_of kept' w q) (high_of kept' w q)
+        ends = rw high (more-ends g turn old o.below un n)
 
-      here : (r b : ℕ) → IsOf t r b → held kept' w b ≡ between (low_of kept' w r) (high_of kept' w r) b
-      here r b i =
-          bit b (omega (arith, i.below, g.few))
-          ∙ ap (λ (v : Bool). v || eqb b k) (s.state.sets w (of-few g turn) i)
-          ∙ elim (equal? r q) [
-            | inl z ↦ rw (z, low, high, ← e) (sym (between_more n (rw z at i) (low_of kept w q) old.ascend))
-            | inr z ↦
-                rw (
-                  m.low w r w-few (omega (arith, of-few g i, g.most)) (λ v. z (omega (arith, v))),
-                  m.high w r w-few (omega (arith, of-few g i, g.most)) (λ v. z (omega (arith, v))),
-                  ne_eqb b k (λ v. z (sym i.worker ∙ ap (worker_of t) v ∙ o.worker)),
-                )
-                (or-false _)
-          ]
+        bit : (b : ℕ) → b < 1024 → held kept' w b ≡ held kept w b || eqb b k
+        bit b l =
+            held_with kept kept' w k x (omega (arith, at-few, sized.sets)) refl sx b
 
-      past : (b : ℕ) → size t ≤ b → b < 1024 → held kept' w b ≡ false
-      past b l i =
-          bit b i
-          ∙ rw (s.state.rest w b (of-few g turn) l i, ne_eqb b k (λ z. omega (arith, z, o.below)))
+        here : (r b : ℕ) → IsOf t r b → held kept' w b ≡ between (low_of kept' w r) (high_of kept' w r) b
+        here r b i =
+            bit b (omega (arith, i.below, g.few))
+            ∙ ap (λ (v : Bool). v || eqb b k) (s.state.sets w (of-few g turn) i)
+            ∙ elim (equal? r q) [
+              | inl z ↦ rw (z, high, ← e) (sym (between_more n (rw z at i) (low_of kept w q) old.ascend))
+              | inr z ↦
+                  rw (
+                    m.low w r w-few (omega (arith, of-few g i, g.most)) (λ v. z (omega (arith, v))),
+                    m.high w r w-few (omega (arith, of-few g i, g.most)) (λ v. z (omega (arith, v))),
+                    ne_eqb b k (λ v. z (sym i.worker ∙ ap (worker_of t) v ∙ o.worker)),
+                  )
+                  (or-false _)
+            ]
 
-  -- the set does not hold k, and the low end is y
-  pub let-one : {x y : ℕ} → k ≡ low_of kept w q → k < high_of kept w q → must_precede_in t k a ≡ true → NextAt t q (k + 1) y
-      → Without (get_or kept (32 * w + k / 32) 0) (k % 32) x
-      → Turn t a w q (set (set kept (32 * w + k / 32) x) (768 + 16 * w + q) y)
-  let-one {x} {y} e below c n sx = turn_moved g turn few s m ends here past
-    where
-      kept' : List ℕ
-      kept' = set (set kept (32 * w + k / 32) x) (768 + 16 * w + q) y
+        past : (b : ℕ) → size t ≤ b → b < 1024 → held kept' w b ≡ false
+        past b l i =
+            bit b i
+            ∙ rw (s.state.rest w b (of-few g turn) l i, ne_eqb b k (λ z. omega (arith, z, o.below)))
 
-      m : Moved t w q kept kept'
-      m = let-moved x y
+    -- the set does not hold k, and the low end is y
+    pub let-one : {x y : ℕ} → Sized kept → k ≡ low_of kept w q → k < high_of kept w q → must_precede_in t k a ≡ true
+        → NextAt t q (k + 1) y → Without (get_or kept.sets (32 * w + k / 32) 0) (k % 32) x
+        → Turn t a w q (left kept w q k x y)
+    let-one {x} {y} sized e below c n sx = turn_moved g turn few s m ends here past
+      where
+        kept' : Unordered
+        kept' = left kept w q k x y
 
-      high : high_of kept' w q ≡ high_of kept w q
-      high = twice-other kept _ _ _ x y (λ z. omega (arith, z, at-few)) (λ z. omega (arith, z))
+        m : Moved t w q kept kept'
+        m = let-moved x y
 
-      low : low_of kept' w q ≡ y
-      low = get_or-set_same (set kept (32 * w + k / 32) x) (768 + 16 * w + q) y 0
-          (simp length-set (omega (arith, s.state.long, w-few, q-few)))
+        low : low_of kept' w q ≡ y
+        low = get_or-set_same kept.low (16 * w + q) y 0 (omega (arith, sized.low, w-few, q-few))
 
-      old : Ends t a w q k (high_of kept w q)
-      old = rw e (s.state.ends w q (of-few g turn) few)
+        old : Ends t a w q k (high_of kept w q)
+        old = rw e (s.state.ends w q (of-few g turn) few)
 
-      ends : Ends t a w q (low_of kept' w q) (high_of kept' w q)
-      ends = rw (low, high) (less-ends g turn old below c n)
+        ends : Ends t a w q (low_of kept' w q) (high_of kept' w q)
+        ends = rw low (less-ends g turn old below c n)
 
-      bit : (b : ℕ) → b < 1024 → held kept' w b ≡ held kept w b && not (eqb b k)
-      bit b l =
-          held-elsewhere (set kept (32 * w + k / 32) x) (768 + 16 * w + q) y w b (λ z. omega (arith, z, w-few))
-          ∙ held-without kept w k x (omega (arith, at-few, s.state.long)) sx b
+        bit : (b : ℕ) → b < 1024 → held kept' w b ≡ held kept w b && not (eqb b k)
+        bit b l =
+            held-without kept kept' w k x (omega (arith, at-few, sized.sets)) refl sx b
 
-      here : (r b : ℕ) → IsOf t r b → held kept' w b ≡ between (low_of kept' w r) (high_of kept' w r) b
-      here r b i =
-          bit b (omega (arith, i.below, g.few))
-          ∙ ap (λ (v : Bool). v && not (eqb b k)) (s.state.sets w (of-few g turn) i)
-          ∙ elim (equal? r q) [
-            | inl z ↦ rw (z, low, high, ← e) (sym (between-less n (rw z at i) (high_of kept w q) below))
-            | inr z ↦
-                rw (
-                  m.low w r w-few (omega (arith, of-few g i, g.most)) (λ v. z (omega (arith, v))),
-                  m.high w r w-few (omega (arith, of-few g i, g.most)) (λ v. z (omega (arith, v))),
-                  ne_eqb b k (λ v. z (sym i.worker ∙ ap (worker_of t) v ∙ o.worker)),
-                )
-                (and-true _)
-          ]
+        here : (r b : ℕ) → IsOf t r b → held kept' w b ≡ between (low_of kept' w r) (high_of kept' w r) b
+        here r b i =
+            bit b (omega (arith, i.below, g.few))
+            ∙ ap (λ (v : Bool). v && not (eqb b k)) (s.state.sets w (of-few g turn) i)
+            ∙ elim (equal? r q) [
+              | inl z ↦ rw (z, low, ← e) (sym (between-less n (rw z at i) (high_of kept w q) below))
+              | inr z ↦
+                  rw (
+                    m.low w r w-few (omega (arith, of-few g i, g.most)) (λ v. z (omega (arith, v))),
+                    m.high w r w-few (omega (arith, of-few g i, g.most)) (λ v. z (omega (arith, v))),
+                    ne_eqb b k (λ v. z (sym i.worker ∙ ap (worker_of t) v ∙ o.worker)),
+                  )
+                  (and-true _)
+            ]
 
-      past : (b : ℕ) → size t ≤ b → b < 1024 → held kept' w b ≡ false
-      past b l i = bit b i ∙ rw (s.state.rest w b (of-few g turn) l i)
+        past : (b : ℕ) → size t ≤ b → b < 1024 → held kept' w b ≡ false
+        past b l i = bit b i ∙ rw (s.state.rest w b (of-few g turn) l i)

@@ -1,34 +1,33 @@
 // The operations that are unordered with a worker's operation, kept as bits along that worker. Of another worker q they
-// are those from a low end to a high one, and both ends only move up. The 32 words from 32 * w on hold the set of
-// worker w, word 512 + 16 * w + q its high end for q, and word 768 + 16 * w + q its low one. The ranks of both stand in
-// words 1024 + 16 * w + q and 1280 + 16 * w + q, and tell for all q whether an end has to move.
+// are those from a low end to a high one, and both ends only move up. The ranks of both ends are kept beside them, and
+// tell for all q whether an end has to move.
 #![tactic(auto)]
 
-ghost use Rattle.std.specs.Prelude.{◌≡◌, List, ℕ, ◌+◌, ◌<◌, length};
-ghost use Rattle.trace.specs.Reading.{reads, file_reading, trace_of};
+ghost use Rattle.std.specs.Prelude.{◌≡◌, List, ℕ, ◌+◌, ◌<◌, false};
+ghost use Rattle.trace.specs.Reading.{trace_of};
 ghost use Rattle.trace.specs.Trace.{size};
-ghost use Rattle.table_entries.specs.Entries.{HoldsTable};
-ghost use Rattle.unordered.specs.Beginning.{Zeros, NothingRead, ReadFrom, first_end, EndsSet};
-ghost use Rattle.unordered.specs.Kept.{HoldsNext, high_of, AllRanks, Carried, Now};
-ghost use Rattle.unordered.specs.Turns.{Place, Ahead, Turn, OtherRanks, AllStill};
+ghost use Rattle.unordered.specs.Beginning.{ReadFrom, first_end, EndsSet};
+ghost use Rattle.unordered.specs.Kept.{IsOf, HoldsNext, high_of, AllRanks, Carried, Now};
+ghost use Rattle.unordered.specs.Turns.{Ahead, Turn, OtherRanks, AllStill};
 
 mod pair;
 
-// Reads the file from its end: the next operation of each operation's worker, and the first of each worker; 1024 where
+use table_entries::FilledTable;
+use trace::TraceFile;
+
+// Reads the trace from its end: the next operation of each operation's worker, and the first of each worker; 1024 where
 // there is none.
-fn read_next(file: &[u8], next: &mut [u32; 1024], firsts: &mut [u32; 16])
-    requires { NothingRead file.now next.old firsts.old }
-    ensures { HoldsNext (trace_of file.now) next.new
-        × ReadFrom (trace_of file.now) 0 next.new firsts.new }
+fn read_next(trace: &TraceFile<'_>, next: &mut [u32; 1024]) -> [u32; 16]
+    ensures { HoldsNext (trace_of trace.now.bytes.now) next.new
+        × ReadFrom (trace_of trace.now.bytes.now) 0 next.new result }
 {
-    let mut left = trace::operation_count(file) as usize;
-    while 1 <= left {
-        let k = left - 1;
-        let q = basics::byte_index(trace::worker_of(file, k));
+    let mut firsts = [1024u32; 16];
+    for k in (0..trace.operations as usize).rev() {
+        let q = trace.worker(k);
         next[k] = firsts[q];
         firsts[q] = k as u32;
-        left = k;
     }
+    firsts
 }
 
 // Where both ends of pair i start.
@@ -42,189 +41,150 @@ fn first_end(firsts: &[u32; 16], i: usize) -> u32
     firsts[i % 16]
 }
 
-// Sets all ends.
-fn set_ends(firsts: &[u32; 16], kept: &mut [u32; 1536])
-    requires { Zeros kept.old }
-    ensures { EndsSet firsts.now 256 kept.new }
+// Where the ends of all pairs start.
+fn first_ends(firsts: &[u32; 16]) -> [u32; 256]
+    ensures { EndsSet firsts.now 256 result }
 {
-    let mut i: usize = 0;
-    while i < 256 {
-        let end = first_end(firsts, i);
-        kept[512 + i] = end;
-        kept[768 + i] = end;
-        i += 1;
+    let mut ends = [0u32; 256];
+    for i in 0..256 {
+        ends[i] = first_end(firsts, i);
     }
+    ends
 }
 
-// Reads the next operations, and sets all ends, in an array of zeros: all sets are empty.
-pub fn begin(file: &[u8], next: &mut [u32; 1024], kept: &mut [u32; 1536])
-    requires { (file_reading file.now ≡ reads (trace_of file.now))
-        × (length next.old ≡ 1024)
-        × Zeros kept.old }
-    ensures { HoldsNext (trace_of file.now) next.new
-        × ((table : List ℕ) → Carried (trace_of file.now) table 0 kept.new) }
-{
-    let mut firsts = [1024u32; 16];
-    read_next(file, next, &mut firsts);
-    set_ends(&firsts, kept);
+// For each operation the next one of its worker, and the 32 words of each worker's set; for the pair of workers w and q,
+// at 16 * w + q, the high and the low end of q's operations in w's set, and the ranks of both.
+#[derive(Drop)]
+pub struct Unordered {
+    next: [u32; 1024],
+    pub sets: [u32; 512],
+    high: [u32; 256],
+    low: [u32; 256],
+    due: [u32; 256],
+    gone: [u32; 256],
 }
 
-// Takes into w's set those of q's operations that a is the first of w's not to be certain before.
-fn take_in(
-    file: &[u8],
-    table: &[u16],
-    next: &[u32; 1024],
-    p: usize,
-    n: usize,
-    a: usize,
-    w: usize,
-    q: usize,
-    kept: &mut [u32; 1536],
-)
-    requires { Place file.now table.now next.now p n a w
-        × (q < p)
-        × Turn (trace_of file.now) a w q kept.old
-        × OtherRanks (trace_of file.now) table.now w q kept.old }
-    ensures { Turn (trace_of file.now) a w q kept.new
-        × Ahead (trace_of file.now) a q (high_of kept.new w q)
-        × OtherRanks (trace_of file.now) table.now w q kept.new }
-{
-    let bound = pair::entry(table, p, a, q);
-    let mut k = pair::high_end(kept, w, q);
-    let mut due = pair::rank(table, p, n, k, q);
-    while due < bound {
-        let after = next[k];
-        pair::take_one(w, q, k, after, kept);
-        k = basics::wide_index(after);
-        due = pair::rank(table, p, n, k, q);
+impl Unordered {
+    // Before the first operation all sets are empty.
+    pub fn of(trace: &TraceFile<'_>) -> Unordered
+        ensures { (table : List ℕ) → Carried (trace_of trace.now.bytes.now) table 0 result }
+    {
+        let mut next = [0; 1024];
+        let firsts = read_next(trace, &mut next);
+        let ends = first_ends(&firsts);
+        Unordered {
+            next,
+            sets: [0; 512],
+            high: ends,
+            low: ends,
+            due: [0; 256],
+            gone: [0; 256],
+        }
     }
-}
 
-// Lets those of q's operations out of w's set that are certain before a.
-fn let_out(
-    file: &[u8],
-    table: &[u16],
-    next: &[u32; 1024],
-    p: usize,
-    n: usize,
-    a: usize,
-    w: usize,
-    q: usize,
-    kept: &mut [u32; 1536],
-)
-    requires { Place file.now table.now next.now p n a w
-        × (q < p)
-        × Turn (trace_of file.now) a w q kept.old
-        × Ahead (trace_of file.now) a q (high_of kept.old w q)
-        × OtherRanks (trace_of file.now) table.now w q kept.old }
-    ensures { Turn (trace_of file.now) a w (q + 1) kept.new
-        × OtherRanks (trace_of file.now) table.now w q kept.new }
-{
-    let bound = pair::entry(table, p, a, w);
-    let high = pair::high_end(kept, w, q);
-    let mut k = pair::low_end(kept, w, q);
-    let mut gone = pair::rank(table, p, high, k, w);
-    while gone <= bound {
-        let after = next[k];
-        pair::let_one(w, q, k, after, kept);
-        k = basics::wide_index(after);
-        gone = pair::rank(table, p, high, k, w);
+    // Takes into w's set those of q's operations that a is the first of w's not to be certain before. The operations are
+    // those that follow one another by `next`.
+    fn take_in(&mut self, filled: &FilledTable<'_>, a: usize, w: usize, q: usize)
+        requires { IsOf (trace_of filled.now.trace.bytes.now) w a
+            × (q < (trace_of filled.now.trace.bytes.now).workers)
+            × Turn (trace_of filled.now.trace.bytes.now) a w q self.old
+            × OtherRanks (trace_of filled.now.trace.bytes.now) filled.now.table.now w q self.old }
+        ensures { Turn (trace_of filled.now.trace.bytes.now) a w q self.new
+            × Ahead (trace_of filled.now.trace.bytes.now) a q (high_of self.new w q)
+            × OtherRanks (trace_of filled.now.trace.bytes.now) filled.now.table.now w q self.new }
+    {
+        let n = filled.trace.operations as usize;
+        let bound = filled.entry(a, q);
+        let mut k = self.high_end(w, q);
+        let mut due = pair::rank(filled, n, k, q);
+        while due < bound {
+            let after = self.next[k];
+            self.take_one(w, q, k, after);
+            k = after as usize;
+            due = pair::rank(filled, n, k, q);
+        }
     }
-}
 
-// Keeps the ranks of both ends.
-fn keep_ranks(
-    file: &[u8],
-    table: &[u16],
-    next: &[u32; 1024],
-    p: usize,
-    n: usize,
-    a: usize,
-    w: usize,
-    q: usize,
-    kept: &mut [u32; 1536],
-)
-    requires { Place file.now table.now next.now p n a w
-        × (q < p)
-        × Turn (trace_of file.now) a w (q + 1) kept.old
-        × OtherRanks (trace_of file.now) table.now w q kept.old }
-    ensures { Turn (trace_of file.now) a w (q + 1) kept.new
-        × AllRanks (trace_of file.now) table.now kept.new }
-{
-    let high = pair::high_end(kept, w, q);
-    let low = pair::low_end(kept, w, q);
-    let due = pair::rank(table, p, n, high, q);
-    let gone = pair::rank(table, p, high, low, w);
-    kept[1024 + 16 * w + q] = due;
-    kept[1280 + 16 * w + q] = gone;
-}
-
-// Moves the ends of w's set to where they are right for a.
-fn move_ends(
-    file: &[u8],
-    table: &[u16],
-    next: &[u32; 1024],
-    p: usize,
-    n: usize,
-    a: usize,
-    w: usize,
-    kept: &mut [u32; 1536],
-)
-    requires { Place file.now table.now next.now p n a w
-        × Carried (trace_of file.now) table.now a kept.old }
-    ensures { Turn (trace_of file.now) a w p kept.new
-        × AllRanks (trace_of file.now) table.now kept.new }
-{
-    let mut q: usize = 0;
-    while q < p {
-        take_in(file, table, next, p, n, a, w, q, kept);
-        let_out(file, table, next, p, n, a, w, q, kept);
-        keep_ranks(file, table, next, p, n, a, w, q, kept);
-        q += 1;
+    // Lets those of q's operations out of w's set that are certain before a. They follow one another by `next`.
+    fn let_out(&mut self, filled: &FilledTable<'_>, a: usize, w: usize, q: usize)
+        requires { IsOf (trace_of filled.now.trace.bytes.now) w a
+            × (q < (trace_of filled.now.trace.bytes.now).workers)
+            × Turn (trace_of filled.now.trace.bytes.now) a w q self.old
+            × Ahead (trace_of filled.now.trace.bytes.now) a q (high_of self.old w q)
+            × OtherRanks (trace_of filled.now.trace.bytes.now) filled.now.table.now w q self.old }
+        ensures { Turn (trace_of filled.now.trace.bytes.now) a w (q + 1) self.new
+            × OtherRanks (trace_of filled.now.trace.bytes.now) filled.now.table.now w q self.new }
+    {
+        let bound = filled.entry(a, w);
+        let high = self.high_end(w, q);
+        let mut k = self.low_end(w, q);
+        let mut gone = pair::rank(filled, high, k, w);
+        while gone <= bound {
+            let after = self.next[k];
+            self.let_one(w, q, k, after);
+            k = after as usize;
+            gone = pair::rank(filled, high, k, w);
+        }
     }
-}
 
-// 0 where no end of w's set has to move for a.
-fn any_moves(
-    file: &[u8],
-    table: &[u16],
-    next: &[u32; 1024],
-    p: usize,
-    n: usize,
-    a: usize,
-    w: usize,
-    kept: &[u32; 1536],
-) -> u32
-    requires { Place file.now table.now next.now p n a w }
-    ensures { result ≡ 0 → AllStill table.now kept.now p a w }
-{
-    let own = pair::entry(table, p, a, w);
-    let mut any: u32 = 0;
-    let mut q: usize = 0;
-    while q < p {
-        let due = pair::kept_due(kept, w, q);
-        let gone = pair::kept_gone(kept, w, q);
-        let entry = pair::entry(table, p, a, q);
-        any |= pair::moves_bit(entry, due, own, gone);
-        q += 1;
+    // Keeps the ranks of both ends.
+    fn keep_ranks(&mut self, filled: &FilledTable<'_>, a: usize, w: usize, q: usize)
+        requires { IsOf (trace_of filled.now.trace.bytes.now) w a
+            × (q < (trace_of filled.now.trace.bytes.now).workers)
+            × Turn (trace_of filled.now.trace.bytes.now) a w (q + 1) self.old
+            × OtherRanks (trace_of filled.now.trace.bytes.now) filled.now.table.now w q self.old }
+        ensures { Turn (trace_of filled.now.trace.bytes.now) a w (q + 1) self.new
+            × AllRanks (trace_of filled.now.trace.bytes.now) filled.now.table.now self.new }
+    {
+        let high = self.high_end(w, q);
+        let low = self.low_end(w, q);
+        let due = pair::rank(filled, filled.trace.operations as usize, high, q);
+        let gone = pair::rank(filled, high, low, w);
+        self.keep(w, q, due, gone);
     }
-    any
-}
 
-// Carries the set of a's worker on to a, whose turn it is.
-pub fn carry_on(file: &[u8], table: &[u16], next: &[u32; 1024], a: usize, kept: &mut [u32; 1536])
-    requires { HoldsTable file.now table.now
-        × HoldsNext (trace_of file.now) next.now
-        × (a < size (trace_of file.now))
-        × Carried (trace_of file.now) table.now a kept.old }
-    ensures { Carried (trace_of file.now) table.now (a + 1) kept.new
-        × Now (trace_of file.now) a kept.new }
-{
-    let p = trace::worker_count(file) as usize;
-    let n = trace::operation_count(file) as usize;
-    let w = basics::byte_index(trace::worker_of(file, a));
-    if any_moves(file, table, next, p, n, a, w, kept) == 0 {
-        return;
+    // Moves the ends of w's set to where they are right for a.
+    fn move_ends(&mut self, filled: &FilledTable<'_>, a: usize, w: usize)
+        requires { IsOf (trace_of filled.now.trace.bytes.now) w a
+            × Carried (trace_of filled.now.trace.bytes.now) filled.now.table.now a self.old }
+        ensures { Turn (trace_of filled.now.trace.bytes.now) a w (trace_of filled.now.trace.bytes.now).workers self.new
+            × AllRanks (trace_of filled.now.trace.bytes.now) filled.now.table.now self.new }
+    {
+        for q in 0..usize::from(filled.trace.workers) {
+            self.take_in(filled, a, w, q);
+            self.let_out(filled, a, w, q);
+            self.keep_ranks(filled, a, w, q);
+        }
     }
-    move_ends(file, table, next, p, n, a, w, kept);
+
+    // Does an end of w's set have to move for a? The pairs are joined without a branch, so that the compiler tests
+    // several at once.
+    fn any_moves(&self, filled: &FilledTable<'_>, a: usize, w: usize) -> bool
+        requires { IsOf (trace_of filled.now.trace.bytes.now) w a }
+        ensures { result ≡ false
+            → AllStill filled.now.table.now self.now (trace_of filled.now.trace.bytes.now).workers a w }
+    {
+        let own = filled.entry(a, w);
+        let mut any: u32 = 0;
+        for q in 0..usize::from(filled.trace.workers) {
+            let due = self.kept_due(w, q);
+            let gone = self.kept_gone(w, q);
+            let entry = filled.entry(a, q);
+            any |= pair::moves_bit(entry, due, own, gone);
+        }
+        any != 0
+    }
+
+    // Carries the set of a's worker on to a, whose turn it is.
+    pub fn carry_on(&mut self, filled: &FilledTable<'_>, a: usize)
+        requires { (a < size (trace_of filled.now.trace.bytes.now))
+            × Carried (trace_of filled.now.trace.bytes.now) filled.now.table.now a self.old }
+        ensures { Carried (trace_of filled.now.trace.bytes.now) filled.now.table.now (a + 1) self.new
+            × Now (trace_of filled.now.trace.bytes.now) a self.new }
+    {
+        let w = filled.trace.worker(a);
+        if self.any_moves(filled, a, w) {
+            self.move_ends(filled, a, w);
+        }
+    }
 }

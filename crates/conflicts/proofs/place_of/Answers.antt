@@ -2,7 +2,7 @@
 use mathlib.Core.Path.{refl}
 use borrow.Author.Rules.{rules}
 use Rattle.conflicts.specs.Cells.{place}
-use Rattle.conflicts.proofs.Cells.{place-below}
+use Rattle.conflicts.proofs.CellTests.{place-below}
 use Rattle.conflicts.proofs.place_of.Goals as goal
 
 pub returns : goal.returns

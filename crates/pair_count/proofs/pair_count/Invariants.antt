@@ -1,12 +1,8 @@
 -- `pair_count` meets its contract. The invariant: the pairs of operations below k are counted, and how many operations
 -- below k each worker has. Assumes nothing.
-use Prim.Native.Nat.{◌-◌}
 use Rattle.trace.specs.Reading.{trace_of}
 use Rattle.pair_count.proofs.PairCounts.{Paired}
 use Rattle.pair_count.proofs.pair_count.Given as goal
 
 abbrev pub invariant-loop-k : goal.invariant-loop-k
-invariant-loop-k l = Paired (trace_of l.file) l.k l.seen l.count
-
-abbrev pub decreases-loop-k : goal.decreases-loop-k
-decreases-loop-k l = l.n - l.k
+invariant-loop-k l = Paired (trace_of l.trace.bytes.now) l.k l.seen l.count

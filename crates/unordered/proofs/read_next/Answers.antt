@@ -1,66 +1,27 @@
--- `read_next` meets its contract. The invariant: the operations from `left` on are read. Assumes nothing.
-use mathlib.Core.Path.{◌∙◌}
+-- `read_next` meets its contract. The invariant: the operations from k on are read. Assumes nothing.
+use mathlib.Core.List.{List}
+use mathlib.Core.Path.{refl}
 use native.Mathlib.Omega.{arith}
-use Rattle.unordered.proofs.NextOperations.{read-few, read_known, read-start, read_more, read-end}
+use Prim.Native.Nat.{ℕ}
+use lib.ListN.{replicate, get_or-replicate}
+use borrow.Author.Rules.{rules}
+use Rattle.trace.specs.Reading.{trace_of}
+use Rattle.unordered.proofs.NextOperations.{read-start, read_more, read-end}
 use Rattle.unordered.proofs.read_next.Goals as goal
 
-pub operation_count-left-requires : goal.operation_count-left-requires
-operation_count-left-requires c = c.requires.trace
+pub loop-k-init : goal.loop-k-init
+loop-k-init c =
+    let h = c.args.trace.now.holds in
+    let firsts : List ℕ = replicate 16 1024 in
+    rw h.count at
+    (read-start {t = trace_of c.args.trace.now.bytes.now} {next = c.args.next.now} {firsts = firsts}
+    (omega (arith, h.count, h.few)) refl (λ q l. get_or-replicate 16 q 1024 0 l))
 
-pub loop-left-init : goal.loop-left-init
-loop-left-init c = rw c.operation_count-left.ensures (read-start c.requires)
-
-pub worker_of-requires : goal.worker_of-requires
-worker_of-requires c = omega (arith, c.loop-left.invariant.below, c.loop-left-test.true)
-
-pub offset_bounds-firsts-q : goal.offset_bounds-firsts-q
-offset_bounds-firsts-q c =
-    omega (
-      arith,
-      read_known c.requires c.loop-left.invariant c.loop-left-test.true c.worker_of.ensures c.byte_index-q.ensures.0,
-    )
-
-pub bounds-firsts-q : goal.bounds-firsts-q
-bounds-firsts-q c =
-    omega (
-      arith,
-      read_known c.requires c.loop-left.invariant c.loop-left-test.true c.worker_of.ensures c.byte_index-q.ensures.0,
-    )
-
-pub offset_bounds-next-k : goal.offset_bounds-next-k
-offset_bounds-next-k c =
-    omega (arith, read-few c.requires, c.loop-left.invariant.below, c.loop-left-test.true)
-
-pub bounds-next-k : goal.bounds-next-k
-bounds-next-k c =
-    omega (arith, read-few c.requires, c.loop-left.invariant.below, c.loop-left-test.true)
-
-pub overflow_cast-firsts : goal.overflow_cast-firsts
-overflow_cast-firsts c =
-    omega (arith, read-few c.requires, c.loop-left.invariant.below, c.loop-left-test.true)
-
-pub offset_bounds-firsts-q-in-loop-left : goal.offset_bounds-firsts-q-in-loop-left
-offset_bounds-firsts-q-in-loop-left c =
-    omega (
-      arith,
-      read_known c.requires c.loop-left.invariant c.loop-left-test.true c.worker_of.ensures c.byte_index-q.ensures.0,
-    )
-
-pub bounds-firsts-q-in-loop-left : goal.bounds-firsts-q-in-loop-left
-bounds-firsts-q-in-loop-left c =
-    omega (
-      arith,
-      read_known c.requires c.loop-left.invariant c.loop-left-test.true c.worker_of.ensures c.byte_index-q.ensures.0,
-    )
-
-pub loop-left-smaller : goal.loop-left-smaller
-loop-left-smaller c = omega (arith, c.loop-left-test.true)
-
-pub loop-left-preserved : goal.loop-left-preserved
-loop-left-preserved c =
-    read_more c.loop-left.invariant (read-few c.requires) (omega (arith, c.loop-left-test.true))
-    (c.byte_index-q.ensures.0 ∙ c.worker_of.ensures)
-    (read_known c.requires c.loop-left.invariant c.loop-left-test.true c.worker_of.ensures c.byte_index-q.ensures.0)
+pub loop-k-preserved : goal.loop-k-preserved
+loop-k-preserved c =
+    let h = c.args.trace.now.holds in
+    read_more c.loop-k.invariant (omega (arith, h.count, h.few)) (search rules)
+    (omega (arith, c.loop-k-test.true)) c.worker-q.ensures.0 c.worker-q.ensures.1
 
 pub returns : goal.returns
-returns c = read-end c.loop-left.invariant c.loop-left-test.false
+returns c = read-end c.loop-k.invariant (omega (arith, c.loop-k-test.false))

@@ -3,9 +3,6 @@ use mathlib.Core.Path.{sym, ◌∙◌}
 use Rattle.unordered.proofs.Entries.{rank-inside, rank-past}
 use Rattle.unordered.proofs.pair.rank.Goals as goal
 
-pub entry-requires : goal.entry-requires
-entry-requires c = c.requires c.if-k-end.true
-
 pub returns-then-k-end : goal.returns-then-k-end
 returns-then-k-end c = c.entry.ensures.0 ∙ sym (rank-inside _ _ _ _ _ c.if-k-end.true)
 

@@ -1,0 +1,7 @@
+-- `count` meets its contract. The invariant: the races with the operations below 32 v are counted. Assumes nothing.
+use Rattle.trace.specs.Reading.{trace_of}
+use Rattle.race_words.proofs.RowLoops.{CountedTo}
+use Rattle.race_words.proofs.Row.count.Given as goal
+
+abbrev pub invariant-loop-v : goal.invariant-loop-v
+invariant-loop-v l = CountedTo (trace_of l.self.trace.bytes.now) l.self.a l.v l.count
