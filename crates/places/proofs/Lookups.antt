@@ -1,7 +1,7 @@
 -- Operations by the index, step by step. In order: each worker's next one; the lowest of them; how many come before
 -- one.
 use mathlib.Core.List.{List}
-use mathlib.Core.Logic.{◌⊎◌, inl, inr, ◌≢◌}
+use mathlib.Core.Logic.{◌≢◌}
 use mathlib.Core.Path.{◌≡◌, refl, sym, ◌∙◌}
 use native.Mathlib.Numerals.{add-one}
 use native.Mathlib.Omega.{arith}
@@ -9,7 +9,6 @@ use Prim.Native.Nat.{ℕ, ◌+◌, ◌-◌, ◌<◌, ◌≤◌}
 use lib.ListN.{get_or}
 use borrow.Author.Tests.{lt-ltb, le-ltb}
 use Rattle.basics.specs.Membership.{up_to}
-use Rattle.basics.proofs.Booleans.{equal?}
 use Rattle.runs.specs.Workers.{count, earlier}
 use Rattle.runs.proofs.Counts.{earlier-less}
 use Rattle.trace.specs.Trace.{Trace, size, worker_of}
@@ -51,18 +50,6 @@ module _ (t : Trace) (counts : List ℕ) where
 pub record Unfound (order : List ℕ) (first k at : ℕ) : Type 0 where
   pub from_on : first ≤ at
   pub not_there : (j : ℕ) → first ≤ j → j < at → get_or order j 0 ≢ k
-
-pub unfound-start : (order : List ℕ) (first k : ℕ) → Unfound order first k first
-unfound-start order first k = record { from_on = omega arith; not_there = λ j h l. absurd (omega arith) }
-
-pub unfound-next : {order : List ℕ} {first k at : ℕ} → Unfound order first k at → get_or order at 0 ≢ k
-    → Unfound order first k (at + 1)
-unfound-next {order} {first} {k} {at} x d =
-    record { from_on = omega (arith, x.from_on); not_there = λ j h l. step j h l (equal? j at) }
-  where
-    step : (j : ℕ) → first ≤ j → j < at + 1 → (j ≡ at) ⊎ (j ≢ at) → get_or order j 0 ≢ k
-    step j h l (inl e) = rw e d
-    step j h l (inr n) = x.not_there j h (omega (arith, n))
 
 module _ {t : Trace} {n : ℕ} {order starts : List ℕ} (x : Places t n order starts) {q k : ℕ} (below : k < n)
     (own : worker_of t k ≡ q) where

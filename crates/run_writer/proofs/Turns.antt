@@ -115,9 +115,6 @@ module _ {t : Trace} {n : ℕ} {order starts : List ℕ} (x : Places t n order s
   turn-most = count_most x known after.0.run
 
   -- what is copied stands in the order
-  pub turn-place : get_or starts q 0 + get_or counts' q 0 ≤ 1024
-  turn-place = omega (arith, stretch-place x known turn-most, few)
-
   pub turn_inside : get_or starts q 0 + get_or counts' q 0 ≤ length order
   turn_inside = omega (arith, stretch-place x known turn-most, places-inside x)
 
@@ -170,9 +167,6 @@ module _ {order starts list ends lasts nexts counts events waiting : List ℕ} {
     (u : Turned list ends lasts true q nexts counts events waiting ready nexts' counts' events' waiting' ready') where
   pub writing-on : get_or counts q 0 ≤ get_or counts' q 0
   writing-on = turn_on w.places w.few w.written first u
-
-  pub writing-place : get_or starts q 0 + get_or counts' q 0 ≤ 1024
-  writing-place = turn-place w.places w.few w.written first u
 
   pub writing-inside : get_or starts q 0 + get_or counts' q 0 ≤ length order
   writing-inside = turn_inside w.places w.few w.written first u

@@ -14,7 +14,7 @@ use Rattle.masks.specs.Masks.{◌is_in◌, Below, Without}
 use Rattle.masks.proofs.Sets.{in-none}
 use Rattle.index.specs.Indexed.{Indexed}
 use Rattle.index.specs.Steps.{operation_at}
-use Rattle.index.proofs.Lookups.{holds-places, parts-begin, parts-end}
+use Rattle.index.proofs.Lookups.{holds-places, parts-end}
 use Rattle.index.proofs.Operations.{at-rth}
 use Rattle.states.specs.States.{next_of}
 use Rattle.states.proofs.Runs.{ends-start}
@@ -83,14 +83,6 @@ module _ {bytes : List ℕ} {p n : ℕ} {order starts list ends before : List �
 
 module _ {bytes : List ℕ} {p n : ℕ} (h : HoldsTrace bytes p n) {order starts : List ℕ}
     (i : Indexed (trace_of bytes) order starts) where
-  pub workers-start : (old : List ℕ) → RowsTo (trace_of bytes) starts (get_or starts 0 0) old old
-  workers-start old =
-      record {
-        same_length = refl;
-        rows = λ k q l m j. absurd (omega (arith, m, parts-begin (holds-places h i)));
-        past = λ j l. refl;
-      }
-
   pub workers-all : {q : ℕ} {old now : List ℕ} → RowsTo (trace_of bytes) starts (get_or starts q 0) old now → q ≡ p
       → n * p ≤ length old → now ≡ written_over (order_table (trace_of bytes)) old
   workers-all {q} r e room =

@@ -1,5 +1,5 @@
 -- One worker's way along its list. In order: at the start; on by a step; with a worker freed that goes first; at an
--- event that is not posted; at the end.
+-- event that is not posted.
 use mathlib.Core.Bool.{Bool, true, false, not, ◌&&◌}
 use mathlib.Core.List.{List}
 use mathlib.Core.Logic.{inl, inr}
@@ -16,9 +16,9 @@ use Rattle.events.proofs.EventBits.{with_post-length}
 use Rattle.masks.specs.Masks.{With, Apart}
 use Rattle.masks.proofs.Sets.{in_either}
 use Rattle.index.specs.Steps.{operation_at, ahead, holds, event, reached, Follows}
-use Rattle.index.proofs.Covering.{reached-in, reached-end, between_none, ends-cases}
+use Rattle.index.proofs.Covering.{reached-in, between_none}
 use Rattle.states.specs.States.{EndsRun, Blocked, next_of}
-use Rattle.walk.specs.Going.{Stopped, at_end, at_left_out, at_event, Entered, Moved, LowerStopped, LowestStretch}
+use Rattle.walk.specs.Going.{Stopped, at_event, Entered, Moved, LowerStopped, LowestStretch}
 use Rattle.walk.specs.Going.{Along, Went}
 use Rattle.walk.proofs.Releasing.{released-none, released-step, released-enter, entered, released-own, still}
 use Rattle.walk.proofs.Releasing.{stopped-blocked}
@@ -228,15 +228,3 @@ module _ {list : List ℕ} {q below from end last : ℕ} (low : q < 16) where
             let s = go.each at (omega arith) h in
             at_event e (omega arith) (s.tells.needed e ∙ rw (need, eq-eqb e e refl)) none
             (entered x.released (omega arith) x.room y)
-
-  -- ---- at the end
-
-  pub along-end : {events waiting events' waiting' : List ℕ} {at freed : ℕ}
-      → Along list q below from end last events waiting events' waiting' at (reached list end last at) freed → end ≤ at
-      → Went list q below from end last events waiting events' waiting' at last freed
-  along-end {events} {waiting} {events'} {waiting'} {at} {freed} x h =
-      record { along = rw (reached-end list last h) at x; stopped = λ t a go. inr (stopped t a go) }
-    where
-      stopped : (t : Trace) (a : ℕ) → Follows t a list q at end last last
-          → Stopped t a events' waiting' q (operation_at t q last)
-      stopped t a go = elim (ends-cases go.ending) [ inl e ↦ at_end e | inr e ↦ at_left_out e ]

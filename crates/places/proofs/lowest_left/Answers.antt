@@ -1,18 +1,12 @@
 -- `lowest_left` meets its contract. The invariant: the lowest of the workers below q. Assumes nothing.
 use mathlib.Core.Path.{sym, ◌∙◌}
 use native.Mathlib.Omega.{arith}
-use Prim.Native.Nat.{◌<◌}
 use Rattle.places.proofs.Lookups.{lowest-none, lowest-new, lowest-old}
 use Rattle.places.proofs.lowest_left.Goals as goal
 use Rattle.places.proofs.lowest_left.Goals.{then-k-least, else-k-least}
 
 pub loop-q-init : goal.loop-q-init
 loop-q-init c = λ t x e. sym (lowest-none t c.args.done.now ∙ x.count)
-
-pub next_operation-k-requires : goal.next_operation-k-requires
-next_operation-k-requires c =
-    let low : c.loop-q.q < 16 = omega (arith, c.loop-q-test.true, c.requires.0) in
-    (low, c.requires.1 _ low)
 
 pub loop-q-preserved : goal.loop-q-preserved
 loop-q-preserved c =

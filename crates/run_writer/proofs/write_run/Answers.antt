@@ -20,11 +20,6 @@ write_walk-at-requires c =
       written = written_start x.left_out y none c.below-all.ensures;
     }
 
-pub let_in-requires : goal.let_in-requires
-let_in-requires c =
-    let (y, none) = c.begin_without.ensures in
-    (y.low, (y.opens.each _ y.low).2)
-
 pub write_walk-requires : goal.write_walk-requires
 write_walk-requires c =
     let (few, low, x) = c.requires in

@@ -7,16 +7,6 @@ use borrow.Author.Rules.{rules}
 use Rattle.run_writer.proofs.Turns.{written-turn, writing-on, writing-inside, writing-room, writing-turn, copied}
 use Rattle.run_writer.proofs.write_walk.Goals as goal
 
-pub loop-ready-init : goal.loop-ready-init
-loop-ready-init c = (c.requires, λ t n a base few x w. w)
-
-pub lowest-q-requires : goal.lowest-q-requires
-lowest-q-requires c = omega (arith, c.loop-ready-test.true)
-
-pub turn-ready-requires : goal.turn-ready-requires
-turn-ready-requires c =
-    (c.lowest-q.ensures, c.loop-ready.invariant.0.written.sized)
-
 pub overflow_sub-more : goal.overflow_sub-more
 overflow_sub-more c =
     let on = writing-on c.loop-ready.invariant.0 c.lowest-q.ensures c.turn-ready.ensures in
@@ -43,10 +33,6 @@ slice_bounds-copy_from_slice-end-in-loop-ready c =
     let inside = writing-inside c.loop-ready.invariant.0 c.lowest-q.ensures c.turn-ready.ensures in
     let on = writing-on c.loop-ready.invariant.0 c.lowest-q.ensures c.turn-ready.ensures in
     omega (arith, inside, on, c.from-in-loop-ready.ensures, c.from.ensures, c.from-before.ensures)
-
-pub loop-ready-smaller : goal.loop-ready-smaller
-loop-ready-smaller c =
-    c.turn-ready.ensures.falls
 
 pub loop-ready-preserved : goal.loop-ready-preserved
 loop-ready-preserved c =

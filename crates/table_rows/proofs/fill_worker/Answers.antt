@@ -5,7 +5,7 @@ use Prim.Native.Nat.{ℕ}
 use lib.Seq.{set-set}
 use Rattle.index.proofs.Lookups.{holds-places, part-ordered}
 use Rattle.table_rows.proofs.Filling.{kept-start}
-use Rattle.table_rows.proofs.Keeping.{known, list-few, to-upto, room-along, kept_next, kept-end}
+use Rattle.table_rows.proofs.Keeping.{known, to-upto, room-along, kept_next, kept-end}
 use Rattle.table_rows.proofs.Stretch.{along-own}
 use Rattle.table_rows.proofs.fill_worker.Goals as goal
 
@@ -20,16 +20,6 @@ loop-from-init c =
     let (begun, ends, none) = c.begin.ensures in
     rw c.from-own.ensures
     (kept-start x c.requires.1 begun none (rw c.from-p.ensures at c.below.ensures) c.without-ready.ensures)
-
-pub pass_own-s-requires : goal.pass_own-s-requires
-pass_own-s-requires c =
-    let x = known c.args.x.now.trace.holds c.args.x.now.handed c.requires.0 in
-    let (low, few) = list-few x c.requires.1 c.begin.ensures.0 in
-    let end = c.from-end.ensures in
-    let last = c.from-last.ensures in
-    let k = c.loop-from.invariant in
-    let on = k.own-list (omega (arith, last, c.loop-from-test.true)) in
-    (omega (arith, end, on.up_to_end), omega (arith, end, few))
 
 pub put_rows-requires : goal.put_rows-requires
 put_rows-requires c =
@@ -63,9 +53,6 @@ loop-from-preserved c =
     let rows = along-own _ m (rw (c.from-p.ensures, done) at c.put_rows.ensures) in
     let next = kept_next x c.requires.1 begun c.loop-from.invariant l w s rows in
     rw (nexts, done) (rw (set-set {A = ℕ} _ _ m _) at next)
-
-pub shape_of-table : goal.shape_of-table
-shape_of-table c = c.loop-from.invariant.same_length
 
 pub returns : goal.returns
 returns c =

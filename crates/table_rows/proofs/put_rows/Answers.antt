@@ -2,24 +2,13 @@
 use mathlib.Core.Path.{◌≡◌}
 use native.Mathlib.Omega.{arith}
 use borrow.Author.Rules.{rules}
-use Rattle.table_rows.proofs.Stretch.{along-start, along-room, along-next}
+use Rattle.table_rows.proofs.Stretch.{along-next}
 use Rattle.table_rows.proofs.put_rows.Goals as goal
-
-pub loop-m-init : goal.loop-m-init
-loop-m-init c = along-start _ _ _ _ _ _ _
-
-pub put_row-requires : goal.put_row-requires
-put_row-requires c =
-    let room = along-room c.requires c.loop-m.invariant c.loop-m.auto.m c.loop-m-test.true in
-    (rw (c.from-k.ensures, c.from-first.ensures) room, c.requires.known)
 
 pub loop-m-preserved : goal.loop-m-preserved
 loop-m-preserved c =
     let row = rw (c.from-k.ensures, c.from-first.ensures) at c.put_row.ensures in
     along-next c.requires c.loop-m.invariant c.loop-m.auto.m c.loop-m-test.true (search rules) row
-
-pub shape_of-table : goal.shape_of-table
-shape_of-table c = c.loop-m.invariant.same_length
 
 pub returns : goal.returns
 returns c =

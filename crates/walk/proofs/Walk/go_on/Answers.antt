@@ -1,10 +1,9 @@
 -- `go_on` meets its contract. The invariant: the worker has gone on to entry `at`, and freed nobody who goes first.
 -- Assumes nothing.
-use mathlib.Core.Path.{◌≡◌, refl, sym, ◌∙◌}
-use native.Mathlib.Omega.{arith}
+use mathlib.Core.Path.{refl, sym, ◌∙◌}
 use borrow.Author.Rules.{rules}
 use Rattle.masks.proofs.Sets.{in-none}
-use Rattle.walk.proofs.Along.{along-start, along-step, along-yield, along-wait, along-end}
+use Rattle.walk.proofs.Along.{along-start, along-step, along-yield, along-wait}
 use Rattle.walk.proofs.Walk.go_on.Goals as goal
 
 pub loop-at-init : goal.loop-at-init
@@ -36,9 +35,3 @@ loop-at-preserved c =
     let more = c.are_apart.ensures.0 c.if-not-are_apart.false in
     let (y, apart) = along-step c.requires.0 x c.loop-at-test.true clear free (rw freed at more) in
     rw (freed, events, waiting) (y, apart, nexts' ∙ nexts, done' ∙ done)
-
-pub returns : goal.returns
-returns c =
-    let (x, clear, nexts, done) = c.loop-at.invariant in
-    let e : c.loop-at.at ≡ c.args.end = omega (arith, x.up_to_end, c.loop-at-test.false) in
-    (rw e at (along-end c.requires.0 x c.loop-at-test.false), nexts, done)
