@@ -1,4 +1,5 @@
-// Sets of workers: worker q is in the set where bit q is 1.
+// Sets of workers: worker q is in the set where bit q is 1. A trait for these and for those of crate `words`, whose laws
+// are tests, would have each of these lines in each impl: no plainer.
 #![tactic(auto)]
 
 ghost use Rattle.std.specs.Prelude.{◌<◌, ◌≤◌, ◌≡◌, true, ◌↔◌};

@@ -4,7 +4,6 @@ use mathlib.Core.Path.{◌≡◌, ap}
 use native.Mathlib.Omega.{arith}
 use Prim.Native.Nat.{ℕ}
 use lib.ListN.{get_or}
-use Rattle.trace.specs.Reading.{refused}
 use Rattle.trace.proofs.Outcomes.{TellsRefusals}
 use Rattle.race_model.specs.declared.Race.{Race}
 use Rattle.text.specs.Ascii.{ascii}

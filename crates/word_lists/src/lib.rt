@@ -6,7 +6,7 @@ ghost use Rattle.words.specs.Passing.{passing};
 ghost use Rattle.words.specs.Words.{is_in};
 ghost use Rattle.word_lists.specs.Lists.{Room, ByteRoom, Listed};
 
-// The numbers of each byte's set: eight digits for each byte.
+// The numbers of each byte's set: eight digits for each byte. As rows of numbers in brackets it would be no plainer.
 const MEMBERS: &[u8; 2048] = b"0000000000000000100000000100000020000000020000001200000001200000\
     3000000003000000130000000130000023000000023000001230000001230000\
     4000000004000000140000000140000024000000024000001240000001240000\

@@ -1,11 +1,10 @@
 -- `beginning` meets its contract: the part starts 0 numbers behind the start of its list. Where neither list has a
 -- beginning, the part is the empty one of the first list, and starts there too.
 -- Assumes nothing.
-use mathlib.Core.Path.{◌≡◌, ap, sym, ◌∙◌}
+use mathlib.Core.Path.{◌≡◌, sym, ◌∙◌}
 use native.Mathlib.Omega.{arith}
 use Prim.Native.Nat.{ℕ, ◌≤◌}
-use Rattle.beginning.specs.declared.Prefix.TheVariants.{OfFirst}
-use Rattle.beginning.proofs.Beginnings.{prefix-fits, call-first, call-second}
+use Rattle.beginning.proofs.Beginnings.{prefix-fits}
 use Rattle.beginning.proofs.beginning.Goals as goal
 
 none_left : (n : ℕ) → n ≤ 0 → n ≡ 0

@@ -1,7 +1,6 @@
 -- `beginning_length` meets its contract: neither number appears in the first i numbers.
 -- Assumes nothing.
 use mathlib.Core.Path.{sym, ◌∙◌}
-use native.Mathlib.Omega.{arith}
 use Rattle.beginning.proofs.Lengths.{searched-all, searched-other, searched-past, searched-more}
 use Rattle.beginning.proofs.Lengths.{searched-found, searched-without}
 use Rattle.beginning.proofs.beginning_length.Goals as goal

@@ -1,9 +1,8 @@
 -- `eight_free` meets its contract: where the first i of the eight are free, neither number appears before at + i.
 -- Assumes nothing.
-use native.Mathlib.Nat.{add-zero}
 use native.Mathlib.Omega.{arith}
 use Prim.Native.Nat.{◌+◌}
-use Rattle.beginning.proofs.Lengths.{eight-more, eight-all}
+use Rattle.beginning.proofs.Lengths.{eight-more}
 use Rattle.beginning.proofs.eight_free.Goals as goal
 
 pub loop-i-preserved : goal.loop-i-preserved

@@ -1,8 +1,6 @@
 -- `put_race_lines` meets its contract: the lines of the first i races are placed.
 -- Assumes nothing.
-use native.Mathlib.Omega.{arith}
-use Prim.Native.Nat.{◌-◌}
-use Rattle.report_text.proofs.RaceLines.{lines_none, lines-room, lines_more, lines-all}
+use Rattle.report_text.proofs.RaceLines.{lines_none, lines_more}
 use Rattle.report_text.proofs.put_race_lines.Goals as goal
 
 pub loop-i-init : goal.loop-i-init

@@ -1,7 +1,7 @@
 -- `list` meets its contract. The invariant: the numbers of the first k bytes are listed. Assumes nothing.
 use mathlib.Core.Path.{ap, ◌∙◌}
 use lib.ListN.{get_or}
-use Rattle.word_lists.proofs.Lists.{list-none, list-start, list_room, list-more, list-end, word-byte}
+use Rattle.word_lists.proofs.Lists.{list-none, list-start, list_room, list-more, word-byte}
 use Rattle.word_lists.proofs.list.Goals as goal
 
 pub returns-then-x-lt1 : goal.returns-then-x-lt1

@@ -1,7 +1,6 @@
 -- `list_byte` meets its contract. The invariant: the first j numbers stand in the row. Assumes nothing.
 use mathlib.Core.Path.{◌∙◌}
-use native.Mathlib.Omega.{arith}
-use Rattle.word_lists.proofs.Lists.{byte-start, byte_more, byte-end}
+use Rattle.word_lists.proofs.Lists.{byte-end}
 use Rattle.word_lists.proofs.list_byte.Goals as goal
 
 pub returns : goal.returns
