@@ -1,10 +1,44 @@
-// The answers of the calls that the C interface has, through it, as numbers. Each lends the first numbers of its
-// memory, as many as are said, since what is behind them is looked at too; where there are not so many, the call is not
-// made, and there is no answer.
+// The answers of the calls that the C interface has, through it, as numbers, and what of them is due by the space that
+// is lent. Each call is lent the first numbers of its memory, as many as are said, since what is behind them is looked
+// at too; where there are not so many, the call is not made, and there is no answer.
 #![tactic(auto)]
 
-use outcomes::Answer;
+use outcomes::{Answer, Due, Question};
 use test_memory::TwoLists;
+
+// What is due by the space that is lent
+
+// What is due from the two runs of n operations in buffers of these sizes, where `order` is due from the pair order.
+pub fn runs_due(order: Due, n: usize, sizes: [usize; 2]) -> Due {
+    let values = order?;
+    if values[0] != 0 {
+        return Err(Question::Unordered.at(0));
+    }
+    if sizes[0] < n || sizes[1] < n {
+        return Err(Question::RunSpace.at(0));
+    }
+    Ok([test_memory::number(n), 0, 0, 0])
+}
+
+// What is due from the race list in two lists of these sizes, where `table` is due from the order table.
+pub fn races_due(table: Due, races: usize, sizes: [usize; 2]) -> Due {
+    let counts = table?;
+    if sizes[0] < races || sizes[1] < races {
+        return Err(Question::RaceSpace.at(test_memory::number(races)));
+    }
+    Ok([counts[0], counts[1], test_memory::number(races), 0])
+}
+
+// What is due from tidying a file into an output of `size` bytes, where `reading` is due from reading the file.
+pub fn canonical_due(reading: Due, file_size: usize, size: usize) -> Due {
+    reading?;
+    if size < file_size {
+        return Err(Question::OutputSpace.at(0));
+    }
+    Ok([test_memory::number(file_size), 0, 0, 0])
+}
+
+// The calls
 
 pub fn accept_answer(file: &[u8]) -> Answer {
     let r = capi::mersohki_accept(file);

@@ -66,15 +66,6 @@ fn races_of(file: &[u8], judgement: &Judgement) -> Races {
     Races { due, count }
 }
 
-// What is due from the race list, where `table` is due from the order table.
-fn races_due(table: Due, races: usize, sizes: [usize; 3]) -> Due {
-    let [workers, operations, _, _] = table?;
-    if sizes[1] < races || sizes[2] < races {
-        return Err(Question::RaceSpace.at(test_memory::number(races)));
-    }
-    Ok([workers, operations, test_memory::number(races), 0])
-}
-
 // The race list with a table and two lists of these sizes.
 fn race_call(
     seen: &mut Seen,
@@ -87,7 +78,7 @@ fn race_call(
     let mut lists = TwoLists::<34>::filled();
     test_memory::fill(&mut table);
     let of_table = table_due(judgement.reading, sizes[0]);
-    let due = races_due(of_table, races.count, sizes);
+    let due = answers::races_due(of_table, races.count, [sizes[1], sizes[2]]);
     let answer = answers::races_answer(file, &mut table, &mut lists, sizes);
     let written = if due.is_ok() { races.count } else { 0 };
     let memory = table_holds(&table, judgement, of_table) && lists.hold(&races.due, written);
@@ -124,20 +115,12 @@ pub fn race_calls(seen: &mut Seen, file: &[u8], judgement: &Judgement) {
 
 // The tidy file
 
-fn canonical_due(reading: Due, file_size: usize, size: usize) -> Due {
-    reading?;
-    if size < file_size {
-        return Err(Question::OutputSpace.at(0));
-    }
-    Ok([test_memory::number(file_size), 0, 0, 0])
-}
-
 // Tidies the file into an output of that size, and expects the tidy file.
 fn canonical_call(seen: &mut Seen, file: &[u8], reading: Due, tidy: &[u8], size: usize) {
     let mut output = [0u8; 120];
     test_memory::fill(&mut output);
     let answer = answers::canonical_answer(file, &mut output, size);
-    let due = canonical_due(reading, file.len(), size);
+    let due = answers::canonical_due(reading, file.len(), size);
     let written = if due.is_ok() { file.len() } else { 0 };
     let memory = test_memory::holds(&output, tidy, written);
     seen.compare(answer, due.into(), memory);

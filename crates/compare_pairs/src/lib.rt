@@ -101,19 +101,6 @@ fn beginnings_hold<'a>(run: &'a [u16], other: &'a [u16], a: usize, b: usize) -> 
 }
 
 impl<'a> Pair<'a> {
-    // What is due from the two runs.
-    fn due(&self) -> Due {
-        let [order, _, _, _] = self.order?;
-        let n = plain_file::operations(self.file);
-        if order != 0 {
-            return Err(Question::Unordered.at(0));
-        }
-        if self.sizes[0] < n || self.sizes[1] < n {
-            return Err(Question::RunSpace.at(0));
-        }
-        Ok([test_memory::number(n), 0, 0, 0])
-    }
-
     // Are the buffers as is due after the two runs?
     fn buffers_hold(&self, runs: &TwoLists<12>) -> bool {
         let n = plain_file::operations(self.file);
@@ -130,7 +117,7 @@ impl<'a> Pair<'a> {
         let x = test_memory::number(self.a);
         let y = test_memory::number(self.b);
         let answer = answers::runs_answer(self.file, x, y, &mut runs, self.sizes);
-        let due = self.due();
+        let due = answers::runs_due(self.order, plain_file::operations(self.file), self.sizes);
         let memory = match due {
             Ok(_) => self.buffers_hold(&runs),
             Err(_) => runs.untouched_from(0),
@@ -167,13 +154,14 @@ fn pair_call(seen: &mut Seen, pair: Pair<'_>, judgement: &Judgement) {
     pair.call(seen);
 }
 
-// Each pair of numbers up to the operation count, and buffers for as many operations as the trace has; of a refused file
-// numbers up to 1, and buffers for 8. `way` decides on the sizes of the buffers.
+// Each pair of numbers up to the operation count, and buffers for as many operations as the trace has; of a refused
+// file numbers up to 1, and buffers for 8. `way` decides on the sizes of the buffers.
 pub fn pair_calls(seen: &mut Seen, file: &[u8], judgement: &Judgement, way: usize) {
     let (most, n) = match judgement.reading {
         Ok(values) => (values[1] as usize, values[1] as usize),
         Err(_) => (1, 8),
     };
+    // one loop a function, so a and b are counted as one number
     for i in 0..81 {
         let (a, b) = (i / 9, i % 9);
         if a <= most && b <= most {

@@ -14,10 +14,10 @@ pub const ROWS: usize = 136;
 // Space for the races of eight operations.
 pub const RACES: usize = 28;
 
-// What is due from reading a file; of an accepted file also entry q of row k of its table at k × p + q, and the order of
-// a and b at a × 8 + b. `sound` says that the rules are known, that the search came to its end, that each largest run
-// contains every run that lacks its operation, and that a trace with a complete run has no dead end; `shared`, that the
-// file is accepted and the event of some Wait has several Posts.
+// What is due from reading a file; of an accepted file also entry q of row k of its table at k × p + q, and the order
+// of a and b at a × 8 + b. `sound` says that the rules are known, that the search came to its end, that each largest
+// run contains every run that lacks its operation, and that a trace with a complete run has no dead end; `shared`, that
+// the file is accepted and the event of some Wait has several Posts.
 #[derive(Clone, Copy)]
 pub struct Judgement {
     pub reading: Due,
@@ -135,6 +135,7 @@ impl Judgement {
 
     // The races of an accepted file, ascending by lower, then higher operation; how many there are.
     pub fn put_races(&self, file: &[u8], lists: &mut TwoLists<RACES>) -> usize {
+        // one loop a function, so a and b are counted as one number
         let mut n: usize = 0;
         for i in 0..64 {
             if self.is_race(file, i / 8, i % 8) {

@@ -16,8 +16,8 @@ fn accepted_calls(seen: &mut Seen, file: &[u8], reading: Due, seed: u64) {
     seen.compare(answer, reading.into(), untouched);
     let rows = Rows::new(file, &table);
     rows.compare(seen, seed);
-    large_pairs::pair_calls(seen, file, &rows, random_files::next(seed));
-    large_lists::race_calls(seen, file, reading, &table, size);
+    large_pairs::pair_calls(seen, &rows, random_files::next(seed));
+    large_lists::race_calls(seen, &rows, size, reading);
     large_lists::tidy_call(seen, file, reading);
     large_lists::short_calls(seen, file, size);
 }

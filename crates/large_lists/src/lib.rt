@@ -13,22 +13,12 @@ const OUTPUT: usize = 12400;
 
 // Races
 
-// What is due from the race list in two lists of so many places, where `table` is due from the order table.
-fn races_due(table: Due, races: usize, room: usize) -> Due {
-    let [workers, operations, _, _] = table?;
-    if room < races {
-        return Err(Question::RaceSpace.at(test_memory::number(races)));
-    }
-    Ok([workers, operations, test_memory::number(races), 0])
-}
-
-// An accepted trace: its file, what is due from reading it, its table, of which `size` numbers are due, and its races.
+// An accepted trace: its table, of which `size` numbers are due, what is due from reading it, and its races.
 #[derive(Clone, Copy)]
 struct Case<'a> {
-    file: &'a [u8],
-    reading: Due,
-    table: &'a [u16; TABLE],
+    rows: &'a Rows<'a>,
     size: usize,
+    reading: Due,
     lists: &'a TwoLists<LIST>,
     races: usize,
 }
@@ -36,14 +26,13 @@ struct Case<'a> {
 impl<'a> Case<'a> {
     // The race list in two lists of so many places.
     fn call(&self, seen: &mut Seen, room: usize) {
+        let Rows { file, table, .. } = *self.rows;
         let mut lists = TwoLists::<LIST>::filled();
         let mut rows = [0u16; TABLE];
         test_memory::fill(&mut rows);
-        let sizes = [self.size, room, room];
-        let due = races_due(self.reading, self.races, room);
-        let answer = answers::races_answer(self.file, &mut rows, &mut lists, sizes);
+        let due = answers::races_due(self.reading, self.races, [room, room]);
+        let answer = answers::races_answer(file, &mut rows, &mut lists, [self.size, room, room]);
         let written = if due.is_ok() { self.races } else { 0 };
-        let table = self.table;
         let memory = lists.hold(self.lists, written) && test_memory::holds(&rows, table, self.size);
         seen.compare(answer, due.into(), memory);
     }
@@ -51,15 +40,14 @@ impl<'a> Case<'a> {
 
 // Lists that just fit, or that are as long as can be where there are very many races, and lists that are too short. Of
 // the table `size` numbers are due.
-pub fn race_calls(seen: &mut Seen, file: &[u8], reading: Due, table: &[u16; TABLE], size: usize) {
+pub fn race_calls(seen: &mut Seen, rows: &Rows<'_>, size: usize, reading: Due) {
     let mut lists = TwoLists::zeros();
-    let races = Rows::new(file, table).put_races(&mut lists);
+    let races = rows.put_races(&mut lists);
     let room = races.min(LIST);
     let case = Case {
-        file,
-        reading,
-        table,
+        rows,
         size,
+        reading,
         lists: &lists,
         races,
     };
@@ -78,7 +66,7 @@ pub fn tidy_call(seen: &mut Seen, file: &[u8], reading: Due) {
     plain_file::tidy_file(file, &mut tidy);
     test_memory::fill(&mut output);
     let answer = answers::canonical_answer(file, &mut output, size);
-    let due: Due = Ok([test_memory::number(size), 0, 0, 0]);
+    let due = answers::canonical_due(reading, size, size);
     seen.compare(answer, due.into(), test_memory::holds(&output, &tidy, size));
     if let Some(written) = output.get(..size) {
         seen.compare(Some(answers::accept_answer(written)), reading.into(), true);

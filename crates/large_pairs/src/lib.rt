@@ -3,7 +3,6 @@
 
 use large_rows::Rows;
 use outcomes::{Due, Kind, Question, Seen};
-use std::cmp::Ordering;
 use test_memory::TwoLists;
 
 // Space for a run.
@@ -24,8 +23,9 @@ fn stands_first(list: &[u16], a: usize, b: usize) -> bool {
     }
 }
 
-// Does the buffer start with the run of n operations that holds b back, with a before b, and then hold what was there?
-fn run_holds(file: &[u8], n: usize, a: usize, b: usize, buffer: &[u16]) -> bool {
+// Does the buffer start with the run that holds b back, with a before b, and then hold what was there?
+fn run_holds(file: &[u8], a: usize, b: usize, buffer: &[u16]) -> bool {
+    let n = plain_file::operations(file);
     match buffer.get(..n) {
         Some(run) => {
             test_memory::untouched_from(buffer, n)
@@ -36,17 +36,6 @@ fn run_holds(file: &[u8], n: usize, a: usize, b: usize, buffer: &[u16]) -> bool 
     }
 }
 
-// What is due from the two runs of n operations in buffers of such sizes, where the order is known.
-fn runs_due(n: usize, order: Option<Ordering>, sizes: [usize; 2]) -> Due {
-    if order.is_some() {
-        return Err(Question::Unordered.at(0));
-    }
-    if sizes[0] < n || sizes[1] < n {
-        return Err(Question::RunSpace.at(0));
-    }
-    Ok([test_memory::number(n), 0, 0, 0])
-}
-
 // A size that just fits n numbers, that is larger, or now and then too small.
 fn room(n: usize, way: usize) -> usize {
     match way % 5 {
@@ -55,17 +44,17 @@ fn room(n: usize, way: usize) -> usize {
     }
 }
 
-// The two runs of a and b, whose order is known.
-fn runs_call(seen: &mut Seen, file: &[u8], a: usize, b: usize, order: Option<Ordering>) {
+// The two runs of a and b, where their order is due.
+fn runs_call(seen: &mut Seen, file: &[u8], a: usize, b: usize, order: Due) {
     let n = plain_file::operations(file);
     let mut runs = TwoLists::<RUN>::filled();
     let x = test_memory::number(a);
     let y = test_memory::number(b);
     let sizes = [room(n, a), room(n, b)];
     let answer = answers::runs_answer(file, x, y, &mut runs, sizes);
-    let due = runs_due(n, order, sizes);
+    let due = answers::runs_due(order, n, sizes);
     let memory = match due {
-        Ok(_) => run_holds(file, n, a, b, &runs.first) && run_holds(file, n, b, a, &runs.second),
+        Ok(_) => run_holds(file, a, b, &runs.first) && run_holds(file, b, a, &runs.second),
         Err(_) => runs.untouched_from(0),
     };
     seen.compare(answer, due.into(), memory);
@@ -75,7 +64,8 @@ fn runs_call(seen: &mut Seen, file: &[u8], a: usize, b: usize, order: Option<Ord
 }
 
 // The order of a pair, by the largest runs, by the rows and by the call, and its two runs.
-fn pair_call(seen: &mut Seen, file: &[u8], rows: &Rows<'_>, a: usize, b: usize) {
+fn pair_call(seen: &mut Seen, rows: &Rows<'_>, a: usize, b: usize) {
+    let file = rows.file;
     let answer = answers::order_answer(file, test_memory::number(a), test_memory::number(b));
     if a == b {
         let due: Due = Err(Question::Different.at(0));
@@ -87,7 +77,7 @@ fn pair_call(seen: &mut Seen, file: &[u8], rows: &Rows<'_>, a: usize, b: usize) 
     seen.compare(Some(answer), due.into(), rows.order(a, b) == order);
     let apart = plain_file::worker_of(file, a) != plain_file::worker_of(file, b);
     seen.note_order(order, apart, plain_file::conflict(file, a, b));
-    runs_call(seen, file, a, b, order);
+    runs_call(seen, file, a, b, due);
 }
 
 // The first operation from b on, going round, that is another than a and in conflict with it, if there is one.
@@ -107,16 +97,18 @@ fn with_partner(file: &[u8], a: usize) -> Option<usize> {
 }
 
 // A pair in conflict, where there is one.
-fn conflict_call(seen: &mut Seen, file: &[u8], rows: &Rows<'_>, from: usize, to: usize) {
+fn conflict_call(seen: &mut Seen, rows: &Rows<'_>, from: usize, to: usize) {
+    let file = rows.file;
     if let Some(a) = with_partner(file, from)
         && let Some(b) = partner(file, a, to)
     {
-        pair_call(seen, file, rows, a, b);
+        pair_call(seen, rows, a, b);
     }
 }
 
 // Pairs of any operations, and pairs in conflict.
-pub fn pair_calls(seen: &mut Seen, file: &[u8], rows: &Rows<'_>, seed: u64) {
+pub fn pair_calls(seen: &mut Seen, rows: &Rows<'_>, seed: u64) {
+    let file = rows.file;
     let n = plain_file::operations(file) as u64;
     let past = answers::order_answer(file, n as u32, 0);
     let past_due: Due = Err(Question::InTrace.at(0));
@@ -126,8 +118,8 @@ pub fn pair_calls(seen: &mut Seen, file: &[u8], rows: &Rows<'_>, seed: u64) {
         let other_state = random_files::next(state);
         let a = random_files::below(state, n) as usize;
         let b = random_files::below(other_state, n) as usize;
-        pair_call(seen, file, rows, a, b);
-        conflict_call(seen, file, rows, a, b);
+        pair_call(seen, rows, a, b);
+        conflict_call(seen, rows, a, b);
         state = random_files::next(other_state);
     }
 }

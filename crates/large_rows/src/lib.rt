@@ -15,8 +15,8 @@ const SOME: usize = 6;
 // A trace with its table, and for each operation its rank.
 #[derive(Clone, Copy)]
 pub struct Rows<'a> {
-    file: &'a [u8],
-    table: &'a [u16; TABLE],
+    pub file: &'a [u8],
+    pub table: &'a [u16; TABLE],
     rank: [usize; 1024],
 }
 

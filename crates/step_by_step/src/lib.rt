@@ -7,8 +7,8 @@ use std::array;
 use std::cmp::Ordering;
 use test_files::Kind;
 
-// The run at hand of a trace: next[q] is the first operation of worker q that is not in it, or the operation count where
-// all of them are; posted[e] says whether a Post of event e is in it.
+// The run at hand of a trace: next[q] is the first operation of worker q that is not in it, or the operation count
+// where all of them are, so that those below it are in the run; posted[e] says whether a Post of event e is in it.
 #[derive(Clone, Copy)]
 pub struct Run<'a> {
     file: &'a [u8],
@@ -34,7 +34,8 @@ impl<'a> Run<'a> {
         x < self.next[plain_file::worker_of(self.file, x) % 16]
     }
 
-    // Has x what it needs by its kind: a Wait a Post of its event, and the others nothing? What is not known never runs.
+    // Has x what it needs by its kind: a Wait a Post of its event, and the others nothing? What is not known never
+    // runs.
     fn has_needed(&self, x: usize) -> bool {
         match plain_file::kind_of(self.file, x) {
             Some(Kind::Wait) if plain_file::length_of(self.file, x) == 0 => {
