@@ -1,7 +1,6 @@
 -- Reading the struct of an answer gives the answer back, where a refusal's number is not 0. Assumes nothing.
 use mathlib.Core.Path.{◌≡◌, refl}
 use Prim.Native.Nat.{ℕ, zero, suc}
-use lib.IntN.{pos}
 use Rattle.std.specs.Prelude.{ℤ, Result, Ok, Err}
 use Rattle.trace.specs.declared.Counts.{Counts}
 use Rattle.trace.specs.declared.Refusal.{Refusal}
@@ -24,7 +23,7 @@ abbrev pub NoZero : {A : Type 0} → Result A Refusal → Type 0
 NoZero a = (k : ℕ) → a ≡ Refused 0 k → ⊥
 
 -- reading a struct with a refusal's number
-refused-back : {A : Type 0} (x : A) (r : Refusal) → NoZero (Err {T = A} r)
+refused-back : {A : Type 0} (x : A) (r : Refusal) → NoZero {A = A} (Err r)
     → if_zero {A = Result A Refusal} r.number (Ok x) (Err r) ≡ Err r
 refused-back x r h = not-zero r.number (Ok x) (Err r) (λ z. h r.place (rw (← z) refl))
 

@@ -2,7 +2,7 @@
 -- Follows: include/mersohki.h.
 -- Differs: nowhere. That reading the struct of a call's answer gives that answer back is shown in proofs/ReadBack, for
 -- every answer whose refusal number is not 0.
-use Rattle.std.specs.Prelude.{ℕ, zero, suc}
+use Rattle.std.specs.Prelude.{ℕ, zero, suc, ℤ}
 use Rattle.std.specs.Prelude.{Result}
 use Rattle.trace.specs.declared.Counts.{Counts}
 use Rattle.races.specs.declared.answer.Races.{Races}

@@ -12,7 +12,7 @@ use Rattle.lent.proofs.Writing.{written-length}
 use Rattle.std.specs.Prelude.{Result}
 use Rattle.races.specs.declared.answer.Races.{Races}
 use Rattle.trace.specs.declared.Refusal.{Refusal}
-use Rattle.races.specs.Races.{races_reading, races_answer, race_records, to_write, shorter, RacesCall}
+use Rattle.races.specs.Races.{races_reading, races_answer, race_records, shorter, RacesCall}
 use Rattle.races.specs.Refusals.{AcceptedRaces}
 use Rattle.races.proofs.Answers.{answer-by}
 use Rattle.races.proofs.Listed.{lists-hold, lists_length}
@@ -20,7 +20,7 @@ use Rattle.races.proofs.Questions.{races-comes-out}
 use Rattle.text.specs.Placed.{Placed}
 use Rattle.text.proofs.Placing.{placed-all}
 use Rattle.report_text.specs.ReportText.{text_of, table_space, race_space, report_text, ReportCall}
-use Rattle.report_text.specs.Premises.{ListingRoom, answer_text}
+use Rattle.report_text.specs.Premises.{ListingRoom, to_write, answer_text}
 
 -- by the outcome of the questions
 text-by : (bytes : List ℕ) {r : Reading} → races_reading bytes table_space race_space ≡ r → report_text bytes ≡ text_of r

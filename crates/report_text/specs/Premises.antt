@@ -20,6 +20,11 @@ pub record ListingRoom (output lower higher : List ℕ) (count : ℕ) : Type 0 w
   pub higher_holds : count ≤ length higher
   pub room : 27 + 17 * count + 17 ≤ length output
 
+-- how many races an answer lists
+abbrev pub to_write : Result Races Refusal → ℕ
+to_write (Err r) = 0
+to_write (Ok found) = found.races
+
 -- the text of what the race list answers, where `races` are those that the lists hold
 abbrev pub answer_text : Result Races Refusal → List Race → List ℕ
 answer_text (Err r) races = refusal r.number r.place

@@ -3,9 +3,9 @@
 
 ghost use Rattle.std.specs.Prelude.{◌+◌, ◌*◌, ◌≤◌, length, take};
 ghost use Rattle.race_model.specs.RaceList.{pair};
-ghost use Rattle.races.specs.Races.{race_records, to_write};
+ghost use Rattle.races.specs.Races.{race_records};
 ghost use Rattle.text.specs.Placed.{Placed};
-ghost use Rattle.report_text.specs.Premises.{RaceRoom, ListingRoom, answer_text};
+ghost use Rattle.report_text.specs.Premises.{RaceRoom, ListingRoom, to_write, answer_text};
 ghost use Rattle.report_text.specs.ReportText.{race_line, race_lines, listing};
 ghost use Rattle.report_text.specs.ReportText.{ReportCall};
 

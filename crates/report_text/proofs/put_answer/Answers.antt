@@ -13,3 +13,15 @@ put_listing-requires c =
 pub returns-in-Ok : goal.returns-in-Ok
 returns-in-Ok c =
     rw c.in-Ok.is c.put_listing.ensures
+
+pub put_pair_line-requires : goal.put_pair_line-requires
+unfolding refusal
+put_pair_line-requires c =
+    let r = c.in-Err.refusal in
+    let short = refusal-line-length r.number r.place (search rules) (search rules) in
+    rw c.from-number.ensures (omega (arith, short, c.requires.room))
+
+pub returns-in-Err : goal.returns-in-Err
+unfolding refusal
+returns-in-Err c =
+    rw c.in-Err.is (rw c.from-number.ensures at c.put_pair_line.ensures)

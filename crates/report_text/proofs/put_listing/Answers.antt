@@ -7,20 +7,20 @@ use Rattle.report_text.proofs.put_listing.Goals as goal
 
 pub put_pair_line-first-requires : goal.put_pair_line-first-requires
 put_pair_line-first-requires c =
-    rw c.from-workers.ensures (counts-room c.requires c.args.operations c.args.workers (omega arith) (omega arith))
+    rw c.from-workers.ensures (counts-room c.requires c.args.found.operations c.args.found.workers (omega arith) (omega arith))
 
 pub put_race_lines-last-requires : goal.put_race_lines-last-requires
 put_race_lines-last-requires c =
     let a = c.args in
     let first = rw c.from-workers.ensures at c.put_pair_line-first.ensures in
-    races-room c.requires a.operations a.workers (omega arith) (omega arith) first
+    races-room c.requires a.found.operations a.found.workers (omega arith) (omega arith) first
 
 pub put_count_line-requires : goal.put_count_line-requires
 put_count_line-requires c =
     let a = c.args in
     let first = rw c.from-workers.ensures at c.put_pair_line-first.ensures in
     let lines = c.put_race_lines-last.ensures in
-    count_room c.requires a.operations a.workers (omega arith) (omega arith) first
+    count_room c.requires a.found.operations a.found.workers (omega arith) (omega arith) first
     lines.0 lines.1 (omega arith)
 
 pub returns : goal.returns
@@ -29,5 +29,5 @@ returns c =
     let a = c.args in
     let first = rw c.from-workers.ensures at c.put_pair_line-first.ensures in
     let lines = c.put_race_lines-last.ensures in
-    all_placed c.requires a.operations a.workers (omega arith) (omega arith) first
+    all_placed c.requires a.found.operations a.found.workers (omega arith) (omega arith) first
     lines.0 lines.1 (omega arith) c.put_count_line.ensures
