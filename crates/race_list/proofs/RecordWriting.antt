@@ -1,29 +1,27 @@
 -- Writing races as records. In order: a row of races, for the loop over it; all races, row by row, for the loop over
--- the rows; what is left to be written, for the call.
+-- the rows; the call.
 use mathlib.Core.List.{List, [], ◌∷◌, ◌++◌, map, append_assoc, append-nil}
 use mathlib.Core.Logic.{inl, inr}
 use mathlib.Core.Path.{◌≡◌, refl, sym, ap, ◌∙◌}
 use native.Mathlib.Numerals.{add-one}
 use native.Mathlib.Omega.{arith}
 use Prim.Native.Nat.{ℕ, zero, suc, ◌+◌, ◌<◌, ◌≤◌}
-use lib.ListN.{length, get_or, set, take, replicate, length-map, length-replicate, get_or-map}
-use lib.Seq.{paste, paste-suc, length-paste, take_at}
+use lib.ListN.{length, get_or, set, take, length-map, get_or-map}
+use lib.Seq.{paste, paste-suc, length-paste, take_at, take-length}
 use Rattle.basics.proofs.Booleans.{equal?}
+use Rattle.std.specs.Prelude.{Ok, Err}
+use Rattle.trace.specs.declared.Refusal.{Refusal}
 use Rattle.trace.specs.Reading.{trace_of}
 use Rattle.trace.specs.Trace.{Trace, size}
 use Rattle.lent.specs.Written.{written_over}
 use Rattle.lent.proofs.Writing.{Written, written-by}
 use Rattle.race_model.specs.declared.Race.{Race}
 use Rattle.race_model.specs.RaceList.{pair, races_below, race_list, race_count}
-use Rattle.table_entries.proofs.TableEntries.{table-short}
 use Rattle.race_model.specs.RaceRows.{race_row, RowHolds}
 use Rattle.race_model.proofs.RowLists.{row_count, below-start, below_next, below_all, below-count, below-few}
-use Rattle.race_rows.specs.Rows.{RowsAt}
-use Rattle.race_rows.proofs.RowStart.{rows_start}
-use Rattle.races.specs.declared.RacesAnswer.{RacesAnswer}
-use Rattle.races.specs.Premises.{Writable}
-use Rattle.races.specs.Races.{to_write, CountCall}
-use Rattle.races.proofs.Answers.{left-to-write}
+use Rattle.races.specs.declared.answer.Races.{Races}
+use Rattle.races.specs.Races.{CountCall}
+use Rattle.races.proofs.Answers.{all-counted, none-listed}
 use Rattle.races.proofs.PairWriting.{pasted-written}
 use Rattle.race_list.specs.Listing.{ListCall}
 
@@ -52,27 +50,7 @@ module _ (old : List Race) (at lower : ℕ) (row : List ℕ) (i : ℕ) where
       rw (add-one i, ← get_or-map (pair lower) row i 0)
       (paste-suc old at (map (pair lower) row) i (pair lower 0) l (omega (arith, long, m)))
 
--- the first i races of a trace are written over a list
-abbrev pub listed : Trace → List Race → ℕ → List Race
-listed t old i = written_over (take i (race_list t)) old
-
 -- ---- all races, row by row, for the loop over the rows
-
--- the lengths of the arrays that the search by rows is lent
-abbrev pub cells_length : ℕ
-cells_length = 2080
-
-abbrev pub next_length : ℕ
-next_length = 1024
-
-abbrev pub kept_length : ℕ
-kept_length = 1536
-
-abbrev pub seen_length : ℕ
-seen_length = 1120
-
-abbrev pub row_length : ℕ
-row_length = 1024
 
 -- the races whose lower operation is below a are written over a list
 abbrev pub rows_over : Trace → List Race → ℕ → List Race
@@ -81,13 +59,15 @@ rows_over t old a = written_over (races_below t a) old
 pub over_none : (t : Trace) (old : List Race) → old ≡ rows_over t old 0
 over_none t old = rw (below-start t)
 
--- where the loop stands: the `at` races whose lower operation is below a are written, and, unless none is to be
--- written, the search by rows has come to a
-pub record RowsDone (bytes table : List ℕ) (count a at : ℕ) (cells next kept seen row : List ℕ) : Type 0 where
-  pub below : a ≤ size (trace_of bytes)
+-- where the loop stands: the `at` races whose lower operation is below a are written
+pub record RowsDone (t : Trace) (count a at : ℕ) : Type 0 where
+  pub below : a ≤ size t
   pub few : at ≤ count
-  pub counts : at ≡ length (races_below (trace_of bytes) a)
-  pub ready : 1 ≤ count → RowsAt bytes table a cells next kept seen row
+  pub counts : at ≡ length (races_below t a)
+
+-- nothing is written
+pub rows-first : (t : Trace) (count : ℕ) → RowsDone t count 0 0
+rows-first t count = record { below = omega arith; few = omega arith; counts = sym (ap length (below-start t)) }
 
 -- they come first in the list of all races
 below_rest : (t : Trace) (a c : ℕ) → a ≤ c → (rest : List Race) × (races_below t c ≡ races_below t a ++ rest)
@@ -105,26 +85,8 @@ below-front t a l =
     let (rest, e) = below_rest t a (size t) l in
     rw (← below_all t, e) (take_at (races_below t a) rest (length (races_below t a)) refl)
 
-module _ {bytes table : List ℕ} {count : ℕ} (can : Writable bytes table count) where
-  -- nothing is written, and the arrays hold zeros
-  pub rows-first : RowsDone bytes table count 0 0 (replicate cells_length 0) (replicate next_length 0)
-      (replicate kept_length 0) (replicate seen_length 0) (replicate row_length 0)
-  rows-first =
-      record {
-        below = omega arith;
-        few = omega arith;
-        counts = sym (ap length (below-start (trace_of bytes)));
-        ready =
-            λ l.
-            rows_start (can.holds l) (length-replicate {A = ℕ} cells_length 0) (length-replicate {A = ℕ} next_length 0)
-            (length-replicate {A = ℕ} seen_length 0) (length-replicate {A = ℕ} row_length 0);
-      }
-
-  module _ {a at : ℕ} {cells next kept seen row : List ℕ} (old : List Race) (room : count ≤ length old)
-      (d : RowsDone bytes table count a at cells next kept seen row) where
-    abbrev t : Trace
-    t = trace_of bytes
-
+module _ {t : Trace} {count : ℕ} (all : count ≡ race_count t) where
+  module _ {a at : ℕ} (old : List Race) (room : count ≤ length old) (d : RowsDone t count a at) where
     written_below : Written at (races_below t a) old (rows_over t old a)
     written_below = written-by (sym d.counts) (omega (arith, d.few)) refl
 
@@ -134,17 +96,14 @@ module _ {bytes table : List ℕ} {count : ℕ} (can : Writable bytes table coun
 
     -- ---- the end: all that are to be written are written
 
-    pub rows-over : count ≤ at → rows_over t old a ≡ listed t old count
+    pub rows-over : count ≤ at → rows_over t old a ≡ written_over (race_list t) old
     rows-over l =
-        let e : count ≡ length (races_below t a) = omega (arith, d.few, d.counts) in
-        rw (e, below-front t a d.below)
+        let e : race_count t ≡ length (races_below t a) = omega (arith, d.few, d.counts) in
+        rw (← take-length (race_list t), e, below-front t a d.below)
 
     -- ---- a row more
 
     module _ (less : at < count) where
-      all : count ≡ race_count t
-      all = can.all (omega arith)
-
       pub rows_inside : a < size t
       rows_inside = elim (equal? a (size t)) [
         | inl e ↦
@@ -152,12 +111,6 @@ module _ {bytes table : List ℕ} {count : ℕ} (can : Writable bytes table coun
             absurd (omega (arith, all, d.counts, last))
         | inr n ↦ omega (arith, n, d.below)
       ]
-
-      pub rows-ask : RowsAt bytes table a cells next kept seen row × (a < size t)
-      rows-ask = (d.ready (omega arith), rows_inside)
-
-      pub lower-short : a < 65535
-      lower-short = omega (arith, rows_inside, table-short (can.holds (omega arith)))
 
       module _ {found : ℕ} {row' : List ℕ} (r : RowHolds (race_row t a) found row') where
         pub row_few : at + found ≤ count
@@ -178,29 +131,33 @@ module _ {bytes table : List ℕ} {count : ℕ} (can : Writable bytes table coun
             pasted-written (races row') (races (race_row t a)) written_below long front (omega (arith, row_few)) in
             rw (add-one, below_next t a) more.whole
 
-        pub row_done : {cells' next' kept' seen' : List ℕ}
-            → RowsAt bytes table (a + 1) cells' next' kept' seen' row'
-            → RowsDone bytes table count (a + 1) (at + found) cells' next' kept' seen' row'
-        row_done ready =
+        pub row_done : RowsDone t count (a + 1) (at + found)
+        row_done =
             record {
               below = omega (arith, rows_inside);
               few = row_few;
               counts = rw add-one (omega (arith, d.counts, below-count t a, row_count r));
-              ready = λ _. ready;
             }
 
-module _ {bytes table table-now : List ℕ} {answer : RacesAnswer} {n : ℕ} (list : List Race)
-    (call : CountCall bytes table (length list) answer table-now) (e : n ≡ to_write answer) where
-  -- the races that are left to be written can be written, and there is room for them
-  pub call-leaves : Writable bytes table-now n × (n ≤ length list)
-  call-leaves = rw e ((left-to-write call).writable, (left-to-write call).fits)
+-- ---- the call
 
-  -- where they are written, the call keeps its promise
-  pub call_kept : {list-now : List Race} → list-now ≡ listed (trace_of bytes) list n
-      → ListCall bytes table list answer table-now list-now
-  call_kept w =
+module _ {bytes table table-now : List ℕ} (list : List Race) where
+  -- where the races are written, the call keeps its promise
+  pub call-written : {r : Races} {list-now : List Race} → CountCall bytes table (length list) (Ok r) table-now
+      → list-now ≡ written_over (race_list (trace_of bytes)) list → ListCall bytes table list (Ok r) table-now list-now
+  call-written call w =
       record {
         answers = call.answers;
         leaves_table = call.leaves_table;
-        leaves_list = w ∙ rw (e, ← (left-to-write call).listed);
+        leaves_list = w ∙ rw (all-counted call).listed;
+      }
+
+  -- and where it refuses
+  pub call-refused : {q : Refusal} → CountCall bytes table (length list) (Err q) table-now
+      → ListCall bytes table list (Err q) table-now list
+  call-refused call =
+      record {
+        answers = call.answers;
+        leaves_table = call.leaves_table;
+        leaves_list = rw (none-listed call);
       }

@@ -1,51 +1,50 @@
 -- `write_races` meets its contract. The invariant: the races whose lower operation is below a are written.
 -- Assumes nothing.
+use mathlib.Core.Path.{◌∙◌}
 use native.Mathlib.Omega.{arith}
 use Rattle.trace.specs.Reading.{trace_of}
-use Rattle.race_list.proofs.RecordWriting.{over_none, rows-first, rows-over, rows_inside, rows-ask, lower-short}
-use Rattle.race_list.proofs.RecordWriting.{row_fits, row-over, row_done}
+use Rattle.race_list.proofs.RecordWriting.{over_none, rows-first, rows-over, rows_inside, row_fits, row-over, row_done}
 use Rattle.race_list.proofs.write_races.Goals as goal
 
 pub loop-at-init : goal.loop-at-init
-loop-at-init c = (rows-first c.requires.0, over_none (trace_of c.args.file.now) c.args.list.now)
+loop-at-init c =
+    let t = trace_of c.args.filled.now.trace.bytes.now in
+    (rows-first t c.args.count, over_none t c.args.list.now, c.of-search.ensures.0, c.of-search.ensures.1)
 
 pub next_row-found-requires : goal.next_row-found-requires
 next_row-found-requires c =
-    let (can, room) = c.requires in
-    rows-ask can c.args.list.now room c.loop-at.invariant.0 c.loop-at-test.true
-
-pub overflow_cast-a : goal.overflow_cast-a
-overflow_cast-a c =
-    let (can, room) = c.requires in
-    let short = lower-short can c.args.list.now room c.loop-at.invariant.0 c.loop-at-test.true in
-    omega (arith, short)
+    let (all, room) = c.requires in
+    let (done, over, same, next) = c.loop-at.invariant in
+    rw (same, next) (rows_inside all c.args.list.now room done c.loop-at-test.true)
 
 pub write_row-requires : goal.write_row-requires
 write_row-requires c =
-    let (can, room) = c.requires in
-    let (done, over) = c.loop-at.invariant in
-    let (fits, long) =
-    row_fits can c.args.list.now room done c.loop-at-test.true c.next_row-found.ensures.0 in
-    (rw over fits, long)
+    let (all, room) = c.requires in
+    let (done, over, same, next) = c.loop-at.invariant in
+    let found = rw (same, next) at c.next_row-found.ensures.0 in
+    (rw over (row_fits all c.args.list.now room done c.loop-at-test.true found).0, found.few)
 
 pub loop-at-smaller : goal.loop-at-smaller
 loop-at-smaller c =
-    let (can, room) = c.requires in
-    let inside = rows_inside can c.args.list.now room c.loop-at.invariant.0 c.loop-at-test.true in
+    let (all, room) = c.requires in
+    let inside = rows_inside all c.args.list.now room c.loop-at.invariant.0 c.loop-at-test.true in
     omega (arith, inside)
 
 pub loop-at-preserved : goal.loop-at-preserved
 loop-at-preserved c =
-    let (can, room) = c.requires in
-    let (done, over) = c.loop-at.invariant in
-    let (holds, on) = c.next_row-found.ensures in
+    let (all, room) = c.requires in
+    let (done, over, same, next) = c.loop-at.invariant in
+    let (holds, kept, on) = c.next_row-found.ensures in
+    let found = rw (same, next) at holds in
     let old = c.args.list.now in (
-      row_done can old room done c.loop-at-test.true holds on,
-      rw (c.write_row.ensures, over) (row-over can old room done c.loop-at-test.true holds),
+      row_done all old room done c.loop-at-test.true found,
+      rw (c.write_row.ensures, over) (row-over all old room done c.loop-at-test.true found),
+      kept ∙ same,
+      rw next at on,
     )
 
 pub returns : goal.returns
 returns c =
-    let (can, room) = c.requires in
-    let (done, over) = c.loop-at.invariant in
-    rw over (rows-over can c.args.list.now room done c.loop-at-test.false)
+    let (all, room) = c.requires in
+    let (done, over, same, next) = c.loop-at.invariant in
+    rw over (rows-over all c.args.list.now room done c.loop-at-test.false)

@@ -9,8 +9,10 @@ use Rattle.race_list.proofs.write_races.Given as goal
 
 abbrev pub invariant-loop-at : goal.invariant-loop-at
 invariant-loop-at l =
-    RowsDone l.file l.table l.count l.a l.at l.cells l.next l.kept l.seen l.row
-    × (l.list ≡ rows_over (trace_of l.file) l.initial.list l.a)
+    RowsDone (trace_of l.filled.trace.bytes.now) l.count l.a l.at
+    × (l.list ≡ rows_over (trace_of l.filled.trace.bytes.now) l.initial.list l.a)
+    × (l.search.filled ≡ l.filled)
+    × (l.search.next ≡ l.a)
 
 abbrev pub decreases-loop-at : goal.decreases-loop-at
-decreases-loop-at l = size (trace_of l.file) - l.a
+decreases-loop-at l = size (trace_of l.filled.trace.bytes.now) - l.a

@@ -1,11 +1,7 @@
 -- `write_row` meets its contract. The invariant: the first i races are written. Assumes nothing.
 use mathlib.Core.Path.{◌≡◌}
-use Prim.Native.Nat.{◌-◌, ◌≤◌}
 use Rattle.race_list.proofs.RecordWriting.{rowed}
 use Rattle.race_list.proofs.write_row.Given as goal
 
 abbrev pub invariant-loop-i : goal.invariant-loop-i
-invariant-loop-i l = (l.list ≡ rowed l.initial.list l.at l.lower l.row l.i) × (l.i ≤ l.count)
-
-abbrev pub decreases-loop-i : goal.decreases-loop-i
-decreases-loop-i l = l.count - l.i
+invariant-loop-i l = l.list ≡ rowed l.initial.list l.at l.lower l.row l.i
