@@ -74,8 +74,8 @@ module _ {starts list ends nexts stops lasts : List ℕ} {q prior : ℕ}
 
 -- ---- nothing done
 
-pub going_start : {t : Trace} → Fits t → {a : ℕ} {starts list ends lasts nexts counts events waiting : List ℕ} {ready : ℕ}
-    → Courses t a starts list ends lasts → ((q : ℕ) → q < 16 → get_or nexts q 0 ≡ get_or starts q 0)
+pub going_start : {t : Trace} → Fits t → {a : ℕ} {starts list ends lasts nexts counts events waiting : List ℕ}
+    → {ready : ℕ} → Courses t a starts list ends lasts → ((q : ℕ) → q < 16 → get_or nexts q 0 ≡ get_or starts q 0)
     → Unstarted counts events waiting → Below t.workers ready
     → Going t a 16 [] list ends lasts nexts counts events waiting ready
 going_start {t} f {a} {ready = ready} x firsts u all =

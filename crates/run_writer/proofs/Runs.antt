@@ -22,7 +22,8 @@ module _ {t : Trace} {p : ℕ} {starts list ends : List ℕ} {q prior b : ℕ} (
     {nexts stops lasts : List ℕ} (y : BegunWithout starts list ends q prior nexts stops lasts) where
   -- ---- the start
 
-  pub written_start : {counts events waiting : List ℕ} → Unstarted counts events waiting → {all : ℕ} → Below p all → {run : List ℕ}
+  pub written_start : {counts events waiting : List ℕ} → Unstarted counts events waiting → {all : ℕ}
+      → Below p all → {run : List ℕ}
       → Written t b [] list stops lasts nexts counts events waiting all 0 run
   written_start none all =
       record {

@@ -1,4 +1,5 @@
--- A run written turn by turn. In order: a stretch of the order; how far a worker can get; one turn more; what is copied.
+-- A run written turn by turn. In order: a stretch of the order; how far a worker can get; one turn more; what is
+-- copied.
 use mathlib.Core.Bool.{true}
 use mathlib.Core.List.{List, [], ◌++◌, append_assoc}
 use mathlib.Core.Logic.{inl}

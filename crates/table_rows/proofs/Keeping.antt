@@ -146,7 +146,8 @@ module _ {bytes : List ℕ} {p n : ℕ} {order starts list ends before : List �
 
         -- ---- behind it
 
-        pub kept_next : KeptAt t starts list ends lasts q to at nexts' (set counts' q to) events'' waiting'' freed before now'
+        pub kept_next : KeptAt t starts list ends lasts q to at nexts' (set counts' q to) events'' waiting'' freed before
+            now'
         kept_next =
             record {
               sized = w.sized;

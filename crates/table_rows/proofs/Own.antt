@@ -137,7 +137,9 @@ module _ {t : Trace} (f : Fits t) {q i a : ℕ} {r list ends lasts nexts counts 
 
         released : Released q events waiting (with_post events (event v)) (set waiting (event v) 0)
             (get_or waiting (event v) 0)
-        released = rw (or_zero_l (get_or waiting (event v) 0)) at (released-step none {e = event v} (omega arith) x.run.shows.words)
+        released =
+            rw (or_zero_l (get_or waiting (event v) 0))
+            at (released-step none {e = event v} (omega arith) x.run.shows.words)
 
         -- who is ready or waits then waited before
         was : (p : ℕ) → Awake (set waiting (event v) 0) (get_or waiting (event v) 0) p → Awake waiting 0 p

@@ -78,7 +78,9 @@ module _ {list ends nexts events waiting events' waiting' : List ℕ} {ready q b
         go (inl e) =
             let same : bit_or rest freed ≡ rest = rw (g.along.none e) (or_zero_r rest) in
             omega (arith, more, e, same, w.less)
-        go (inr n) = omega (arith, more, n, few, g.along.from_on, sized-sum turned-sized (length-set nexts q at ∙ places))
+        go (inr n) =
+            let most = sized-sum turned-sized (length-set nexts q at ∙ places) in
+            omega (arith, more, n, few, g.along.from_on, most)
 
     -- ---- the state
 

@@ -67,10 +67,7 @@ impl Walk {
             × (self.new.done ≡ self.old.done) }
     {
         events::post(&mut self.events, e);
-        let at = e as usize;
-        let freed = self.waiting[at];
-        self.waiting[at] = 0;
-        freed
+        std::mem::take(&mut self.waiting[e as usize])
     }
 
     // Worker q waits for event e.

@@ -46,7 +46,8 @@ loop-ready-preserved c =
     let long : length c.loop-ready.run ≡ 1024 = search rules in
     let before' = c.from-before.result in
     let more = c.from.result - before' in
-    let same = copied c.args.index.now.order c.loop-ready.run (c.from-in-loop-ready.result + before') c.loop-ready.at more
+    let from = c.from-in-loop-ready.result + before' in
+    let same = copied c.args.index.now.order c.loop-ready.run from c.loop-ready.at more
     (omega (arith, writing-inside w first u, on', start, before, after)) c.copy_from_slice.ensures.after in
     rw (same, start, before, after)
     (writing-turn w first u long, λ t n a base few x y. written-turn x few (on t n a base few x y) first u long)

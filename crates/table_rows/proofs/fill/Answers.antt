@@ -10,5 +10,5 @@ pub returns : goal.returns
 returns c =
     let x = c.args.x.now in
     let end = c.from-q-end.ensures in
-    workers-all x.trace.holds x.handed.indexed c.loop-q.invariant (omega (arith, c.loop-q-test.false, c.loop-q.auto.q-end, end))
-    c.requires.room
+    workers-all x.trace.holds x.handed.indexed c.loop-q.invariant
+    (omega (arith, c.loop-q-test.false, c.loop-q.auto.q-end, end)) c.requires.room

@@ -16,16 +16,18 @@ returns-then-is_held c =
     let (x, clear, nexts, done) = c.loop-at.invariant in
     let (entered, events, nexts', done') = c.enter.ensures in
     let held = sym c.is_held.ensures ∙ c.if-is_held.true in
+    let entered' = rw c.event_of-e.ensures at entered in
     rw (c.count_before.ensures.0, events)
-    (along-wait c.requires.0 x c.loop-at-test.true held (rw c.event_of-e.ensures at entered), nexts' ∙ nexts, done' ∙ done)
+    (along-wait c.requires.0 x c.loop-at-test.true held entered', nexts' ∙ nexts, done' ∙ done)
 
 pub returns-then-not-are_apart : goal.returns-then-not-are_apart
 returns-then-not-are_apart c =
     let (x, clear, nexts, done) = c.loop-at.invariant in
     let free = sym c.is_held.ensures ∙ c.if-is_held.false in
     let (freed, events, waiting, nexts', done') = rw c.event_of-e.ensures at c.release-more.ensures in
+    let own = rw freed at c.with.ensures in
     rw (c.count_after.ensures, events, waiting)
-    (along-yield c.requires.0 x c.loop-at-test.true clear free (rw freed at c.with.ensures), nexts' ∙ nexts, done' ∙ done)
+    (along-yield c.requires.0 x c.loop-at-test.true clear free own, nexts' ∙ nexts, done' ∙ done)
 
 pub loop-at-preserved : goal.loop-at-preserved
 loop-at-preserved c =

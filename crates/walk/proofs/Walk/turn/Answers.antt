@@ -10,4 +10,5 @@ returns c =
     let rest = c.without.ensures in
     let (is, few) = c.joined.ensures in
     rw (is, nexts, done)
-    (turned c.args.limits.now.lasts _ s (search rules) (search rules) first rest went c.goes_before-below.ensures.0 (rw is at few))
+    (turned c.args.limits.now.lasts _ s (search rules) (search rules) first rest went
+    c.goes_before-below.ensures.0 (rw is at few))
