@@ -12,7 +12,8 @@ pub struct Line {
     inside: bool,
 }
 
-// More numbers than a line can have: from there on no more are counted. So is a line that is not of this form.
+// More numbers than a line can have: from there on no more are counted. So is a line that is not of this form. It is a
+// count, and no flag or `None`, since such a line is a mismatch and is obeyed all the same.
 const TOO_MANY: usize = 25;
 
 // The number with one digit more, modulo 2^32; and whether it is less.

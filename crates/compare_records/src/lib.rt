@@ -39,7 +39,8 @@ pub enum Call {
 }
 
 impl Call {
-    // Makes the call; where there is not so much memory, there is no answer.
+    // Makes the call; where there is not so much memory, there is no answer. What is behind `size` and `room` is looked
+    // at too, so all of the memory is handed on.
     pub fn answer<const N: usize>(
         self,
         file: &[u8],

@@ -3,9 +3,9 @@
 
 use small_rules::{Rules, Set};
 
-// The search through all runs, with the run at hand: `from` is the lowest operation that was not yet tried behind it.
-// reached[s] says whether there is a run of the operations of set s; after[x] has the operations that stand after x in
-// some complete run.
+// The search through all runs, with the run at hand, the first `length` places of the list, since there is no heap;
+// `from` is the lowest operation that was not yet tried behind it. reached[s] says whether there is a run of the
+// operations of set s; after[x] has the operations that stand after x in some complete run.
 #[derive(Clone, Copy)]
 pub struct Search {
     rules: Rules,

@@ -45,7 +45,8 @@ pub struct Refusal {
 // What is due from a call: its values, or its refusal.
 pub type Due = Result<[u32; 4], Refusal>;
 
-// What a call of the C interface answers: the number 0 and its values, or the number and place of its refusal.
+// What a call of the C interface answers, as numbers, so that each number of its struct is compared: the number 0 and
+// its values, or the number and place of its refusal.
 #[derive(Clone, Copy, PartialEq, Eq)]
 pub struct Answer {
     pub number: u8,
@@ -114,7 +115,7 @@ pub enum Kind {
     Looks,
 }
 
-pub const KINDS: usize = 16;
+pub const KINDS: usize = Kind::Looks as usize + 1;
 
 // Calls by the number of their refusal, and files by the number by which they are refused, where 0 is success; and how
 // many there were of each kind.
@@ -150,7 +151,8 @@ impl Seen {
     }
 
     pub fn count(&mut self, kind: Kind, by: u64) {
-        count_at(&mut self.kinds, kind as usize, by);
+        let count = &mut self.kinds[kind as usize];
+        *count = count.saturating_add(by);
     }
 
     // Counts what must hold, and does not.
