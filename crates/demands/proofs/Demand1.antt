@@ -13,7 +13,7 @@ use Rattle.trace.specs.Refusals.{by_earlier, by_this, file_numbers}
 use Rattle.trace.specs.Trace.{Trace, size}
 use Rattle.accept.specs.Acceptance.{AcceptedTrace, accept_answer}
 use Rattle.accept.specs.Acceptance as accept
-use Rattle.std.specs.Prelude.{Result}
+use Rattle.std.specs.Prelude.{ℤ, Result}
 use Rattle.trace.specs.declared.Counts.{Counts}
 use Rattle.races.specs.declared.answer.Races.{Races}
 use Rattle.trace.specs.declared.Refusal.{Refusal}

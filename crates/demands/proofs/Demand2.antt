@@ -237,8 +237,9 @@ refused-ten-only bytes k a = go (file_reading bytes) refl
   where
     go : (r : Reading) → file_reading bytes ≡ r → (t : Trace) × (file_reading bytes ≡ reads t) × NoCompleteRun t
     go (refused q j) e =
-        let same : Refused q j ≡ Refused 10 k = answer-unread bytes e ∙ a in
-        let ten : q ≡ 10 = cc in
+        let same : ◌≡◌ {A = Result Counts Refusal} (Refused q j) (Refused 10 k) = answer-unread bytes e ∙ a in
+        let refusal : ◌≡◌ {A = Refusal} (record { number = q; place = j }) (record { number = 10; place = k }) = cc in
+        let ten : q ≡ 10 = ap (λ (r : Refusal). r.number) refusal in
         let number = reading-number bytes q j ((file-refused-first bytes q j).0 e) in
         absurd (lacks 10 reading_numbers tt (rw ten at number))
     go (reads t) e = (t, e, (refused-ten-exactly bytes t e).0 (k, a))

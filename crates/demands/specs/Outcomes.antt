@@ -5,7 +5,7 @@ use Rattle.std.specs.Prelude.{List, ℕ, length}
 use Rattle.trace.specs.Form.{base}
 use Rattle.trace.specs.Trace.{Trace, size}
 use Rattle.model.specs.Computed.{pair_order}
-use Rattle.std.specs.Prelude.{Result}
+use Rattle.std.specs.Prelude.{ℤ, Result}
 use Rattle.trace.specs.declared.Counts.{Counts}
 use Rattle.races.specs.declared.answer.Races.{Races}
 use Rattle.trace.specs.declared.Refusal.{Refusal}

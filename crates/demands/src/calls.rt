@@ -10,40 +10,42 @@ ghost use Rattle.races.specs.Races.{RacesCall};
 ghost use Rattle.canonical.specs.CanonicalFile.{CanonicalCall};
 ghost use Rattle.report_text.specs.ReportText.{ReportCall};
 
-use accept::AcceptAnswer;
 use beginning::Prefix;
-use canonical::CanonicalAnswer;
-use order_table::TableAnswer;
-use pair_order::OrderAnswer;
-use races::RacesAnswer;
-use two_runs::RunsAnswer;
+use races::Races;
+use trace::{Counts, Refusal};
 
-fn reading_call(file: &[u8]) -> AcceptAnswer
+fn reading_call(file: &[u8]) -> Result<Counts, Refusal>
     ensures { result ≡ accept_answer file.now }
 {
     accept::accept(file)
 }
 
 // Each element of a file that a call is lent is a byte, whatever is answered.
-fn lent_file(file: &[u8]) -> AcceptAnswer
+fn lent_file(file: &[u8]) -> Result<Counts, Refusal>
     ensures { Bytes file.now }
 {
     accept::accept(file)
 }
 
-fn table_call(file: &[u8], table: &mut [u16]) -> TableAnswer
+fn table_call(file: &[u8], table: &mut [u16]) -> Result<Counts, Refusal>
     ensures { TableCall file.now table.old result table.new }
 {
     order_table::order_table(file, table)
 }
 
-fn order_call(file: &[u8], a: u32, b: u32) -> OrderAnswer
+fn order_call(file: &[u8], a: u32, b: u32) -> Result<i8, Refusal>
     ensures { result ≡ order_answer file.now a b }
 {
     pair_order::pair_order(file, a, b)
 }
 
-fn runs_call(file: &[u8], a: u32, b: u32, first: &mut [u16], second: &mut [u16]) -> RunsAnswer
+fn runs_call(
+    file: &[u8],
+    a: u32,
+    b: u32,
+    first: &mut [u16],
+    second: &mut [u16],
+) -> Result<u32, Refusal>
     ensures { RunsCall file.now a b first.old second.old result
         first.new second.new }
 {
@@ -63,14 +65,19 @@ fn prefix_call(first: &[u16], second: &[u16], chosen: u32, other: u32) -> Prefix
     beginning::which_prefix(first, second, chosen, other)
 }
 
-fn races_call(file: &[u8], table: &mut [u16], lower: &mut [u16], higher: &mut [u16]) -> RacesAnswer
+fn races_call(
+    file: &[u8],
+    table: &mut [u16],
+    lower: &mut [u16],
+    higher: &mut [u16],
+) -> Result<Races, Refusal>
     ensures { RacesCall file.now table.old lower.old higher.old result
         table.new lower.new higher.new }
 {
     races::races(file, table, lower, higher)
 }
 
-fn canonical_call(file: &[u8], output: &mut [u8]) -> CanonicalAnswer
+fn canonical_call(file: &[u8], output: &mut [u8]) -> Result<u32, Refusal>
     ensures { CanonicalCall file.now output.old result output.new }
 {
     canonical::canonical(file, output)
