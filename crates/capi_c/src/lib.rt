@@ -1,5 +1,6 @@
 // The C interface as a static library: the functions of `capi` under their own names, for C. Each calls its namesake,
-// and promises what that promises. include/mersohki.h declares them.
+// and promises what that promises: two crates, for the C interface is a static library, which no crate can cite.
+// include/mersohki.h declares them.
 #![tactic(auto)]
 
 ghost use Rattle.std.specs.Prelude.{◌≡◌};

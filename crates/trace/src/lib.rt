@@ -18,7 +18,8 @@ pub const MARK: [u8; 2] = [0x50, 0x57];
 // How many bytes a record has.
 pub const RECORD_SIZE: usize = 10;
 
-// What a record says: its worker, kind (1 Post, 2 Wait, 3 Read, 4 Write), number and length.
+// What a record says: its worker, kind (1 Post, 2 Wait, 3 Read, 4 Write), number and length. The kind is a number and no
+// enum: a record may hold any, and it is question 7, `kind_known`, that asks it.
 #[derive(Clone, Copy)]
 pub struct Operation {
     pub worker: u8,
@@ -28,13 +29,11 @@ pub struct Operation {
 }
 
 // The two bytes at a place, as a number.
-fn number16(file: &[u8], at: usize) -> u32
+fn number16(file: &[u8], at: usize) -> u16
     requires { at + 2 ≤ length file.now }
-    ensures { (result ≡ value 2 (drop at file.now)) × (result < 65536) }
+    ensures { result ≡ value 2 (drop at file.now) }
 {
-    let low = u32::from(file[at]);
-    let high = u32::from(file[at + 1]);
-    low + 256 * high
+    u16::from_le_bytes([file[at], file[at + 1]])
 }
 
 // The four bytes at a place, as a number.
@@ -42,7 +41,7 @@ fn number32(file: &[u8], at: usize) -> u32
     requires { at + 4 ≤ length file.now }
     ensures { result ≡ value 4 (drop at file.now) }
 {
-    number16(file, at) + 65536 * number16(file, at + 2)
+    u32::from_le_bytes([file[at], file[at + 1], file[at + 2], file[at + 3]])
 }
 
 // The operation written in the record at a place.
@@ -50,15 +49,11 @@ pub fn operation_in(file: &[u8], at: usize) -> Operation
     requires { at + record_size base ≤ length file.now }
     ensures { result ≡ operation_in (drop at file.now) }
 {
-    let worker = file[at + 2];
-    let kind = file[at + 3];
-    let number = number32(file, at + 4);
-    let count = number16(file, at + 8);
     Operation {
-        worker,
-        kind,
-        number,
-        length: count as u16,
+        worker: file[at + 2],
+        kind: file[at + 3],
+        number: number32(file, at + 4),
+        length: number16(file, at + 8),
     }
 }
 
@@ -84,7 +79,8 @@ pub fn is_access(kind: u8) -> bool
     kind == 3 || kind == 4
 }
 
-// A refusal: the number of the question that is answered "no", and its place.
+// A refusal: the number of the question that is answered "no", and its place. It is document 01's number and no enum:
+// `refused-answer`, of `accept`, and the theorems of `demands` speak of any number.
 #[derive(Clone, Copy, Debug, PartialEq, Eq)]
 pub struct Refusal {
     pub number: u8,

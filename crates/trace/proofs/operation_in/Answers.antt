@@ -5,4 +5,4 @@ use Rattle.trace.proofs.operation_in.Goals as goal
 
 pub returns : goal.returns
 unfolding operation_in
-returns c = simp (get_or-drop, drop-drop, c.number16-count.ensures.0, c.number32-number.ensures)
+returns c = simp (get_or-drop, drop-drop, c.number16.ensures, c.number32.ensures)
