@@ -156,7 +156,7 @@ impl<'a> Shuffled<'a> {
             seen.count(Kind::Shuffled, 1);
         }
         seen.expect(answer.number == other.number);
-        if answer.is_refusal() {
+        if answer.number != 0 {
             return;
         }
         self.compare_tables(seen);

@@ -1,6 +1,8 @@
 // What is due from a call, what a call answers, and what was seen, counted.
 #![tactic(auto)]
 
+ghost use Rattle.std.specs.Prelude.{◌≡◌, ◌≤◌, IsTrue, slice_index};
+
 use std::cmp::Ordering;
 
 // The questions, by their names in include/mersohki.h; a question's number is its value.
@@ -27,7 +29,10 @@ pub enum Question {
 
 impl Question {
     // The refusal by this question.
-    pub fn at(self, place: u32) -> Refusal {
+    pub fn at(self, place: u32) -> Refusal
+        ensures asked { result.question ≡ self }
+        ensures there { result.place ≡ place }
+    {
         Refusal {
             question: self,
             place,
@@ -54,12 +59,6 @@ pub struct Answer {
     pub values: [u32; 4],
 }
 
-impl Answer {
-    pub fn is_refusal(&self) -> bool {
-        self.number != 0
-    }
-}
-
 impl From<Due> for Answer {
     fn from(due: Due) -> Self {
         match due {
@@ -79,7 +78,9 @@ impl From<Due> for Answer {
 
 // The order of two operations as a value: 1 where the first is certain before the second, 2 where the second is certain
 // before the first, else 0.
-pub fn order_value(order: Option<Ordering>) -> u32 {
+pub fn order_value(order: Option<Ordering>) -> u32
+    ensures { result ≤ 2 }
+{
     match order {
         Some(Ordering::Less) => 1,
         Some(Ordering::Greater) => 2,
@@ -146,41 +147,59 @@ impl Seen {
         }
     }
 
-    pub fn mismatches(&self) -> u64 {
+    pub fn mismatches(&self) -> u64
+        ensures { result ≡ slice_index self.now.kinds 0 }
+    {
         self.kinds[Kind::Mismatches as usize]
     }
 
-    pub fn count(&mut self, kind: Kind, by: u64) {
+    pub fn count(&mut self, kind: Kind, by: u64)
+        ensures calls { self.new.calls ≡ self.old.calls }
+        ensures files { self.new.files ≡ self.old.files }
+    {
         let count = &mut self.kinds[kind as usize];
         *count = count.saturating_add(by);
     }
 
     // Counts what must hold, and does not.
-    pub fn expect(&mut self, holds: bool) {
+    pub fn expect(&mut self, holds: bool)
+        ensures calls { self.new.calls ≡ self.old.calls }
+        ensures files { self.new.files ≡ self.old.files }
+        ensures nothing { IsTrue holds → self.new ≡ self.old }
+    {
         if !holds {
             self.count(Kind::Mismatches, 1);
         }
     }
 
     // Counts a call for which `number` was due, and a mismatch where not all was as due.
-    pub fn note(&mut self, number: u8, holds: bool) {
+    pub fn note(&mut self, number: u8, holds: bool)
+        ensures { self.new.files ≡ self.old.files }
+    {
         let known = count_at(&mut self.calls, number as usize, 1);
         self.expect(known && holds);
     }
 
     // Counts a call: its answer, if it was made, what was due, and whether lent memory is as due.
-    pub fn compare(&mut self, given: Option<Answer>, due: Answer, memory: bool) {
+    pub fn compare(&mut self, given: Option<Answer>, due: Answer, memory: bool)
+        ensures { self.new.files ≡ self.old.files }
+    {
         self.note(due.number, memory && given == Some(due));
     }
 
     // Counts a file: that it is accepted, or by which question it is refused.
-    pub fn note_file(&mut self, reading: Due) {
+    pub fn note_file(&mut self, reading: Due)
+        ensures { self.new.calls ≡ self.old.calls }
+    {
         let known = count_at(&mut self.files, Answer::from(reading).number as usize, 1);
         self.expect(known);
     }
 
     // Counts a pair of operations with its order, and whether they are of different workers and in conflict.
-    pub fn note_order(&mut self, order: Option<Ordering>, apart: bool, conflict: bool) {
+    pub fn note_order(&mut self, order: Option<Ordering>, apart: bool, conflict: bool)
+        ensures calls { self.new.calls ≡ self.old.calls }
+        ensures files { self.new.files ≡ self.old.files }
+    {
         if order.is_none() {
             self.count(Kind::Unordered, 1);
             return;

@@ -1,6 +1,8 @@
 // What may follow what in a run of a trace of up to eight operations, by document 01's definition of a run.
 #![tactic(auto)]
 
+ghost use Rattle.std.specs.Prelude.{◌≤◌};
+
 use std::array;
 use test_files::Kind;
 
@@ -33,7 +35,9 @@ impl Set {
         self.0 & other.0 != 0
     }
 
-    pub fn size(self) -> u32 {
+    pub fn size(self) -> u32
+        ensures { result ≤ 8 }
+    {
         self.0.count_ones()
     }
 }

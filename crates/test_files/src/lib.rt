@@ -1,7 +1,7 @@
 // How the bytes of a trace file lie, and writing them for tests.
 #![tactic(auto)]
 
-ghost use Rattle.std.specs.Prelude.{◌≤◌};
+ghost use Rattle.std.specs.Prelude.{◌≡◌, ◌≤◌, IsSome};
 
 // The kinds of operations, by their numbers.
 #[derive(Clone, Copy, PartialEq, Eq)]
@@ -13,7 +13,9 @@ pub enum Kind {
 }
 
 // The kind with that number, if there is one.
-pub fn kind_of(number: u32) -> Option<Kind> {
+pub fn kind_of(number: u32) -> Option<Kind>
+    ensures { IsSome result → number ≤ 4 }
+{
     match number {
         1 => Some(Kind::Post),
         2 => Some(Kind::Wait),
@@ -75,12 +77,20 @@ pub struct Fields {
 
 impl Fields {
     // A Post or a Wait.
-    pub fn of_event(worker: u32, kind: Kind, event: u32) -> Self {
+    pub fn of_event(worker: u32, kind: Kind, event: u32) -> Self
+        ensures worker { result.worker ≡ worker }
+        ensures event { result.number ≡ event }
+        ensures length { result.length ≡ 0 }
+    {
         Fields::of_access(worker, kind, event, 0)
     }
 
     // A Read or a Write.
-    pub fn of_access(worker: u32, kind: Kind, cell: u32, length: u32) -> Self {
+    pub fn of_access(worker: u32, kind: Kind, cell: u32, length: u32) -> Self
+        ensures worker { result.worker ≡ worker }
+        ensures cell { result.number ≡ cell }
+        ensures length { result.length ≡ length }
+    {
         Fields {
             worker,
             kind: kind as u32,
