@@ -1,5 +1,5 @@
 -- One worker's way along its list. In order: at the start; on by a step; with a worker freed that goes first; at an
--- event that is not posted.
+-- event that is not posted; at the end, which no answer cites, since the check finds it alone.
 use mathlib.Core.Bool.{Bool, true, false, not, ◌&&◌}
 use mathlib.Core.List.{List}
 use mathlib.Core.Logic.{inl, inr}
@@ -7,18 +7,17 @@ use mathlib.Core.Path.{◌≡◌, refl, ◌∙◌}
 use native.Mathlib.Omega.{arith}
 use Prim.Native.Nat.{ℕ, ◌+◌, ◌%◌, ◌<◌, ◌≤◌}
 use lib.Bits.{bit_or}
-use lib.ListN.{length, get_or, set, length-set}
+use lib.ListN.{length, get_or, set}
 use borrow.Author.Tests.{eq-eqb}
 use Rattle.basics.proofs.Booleans.{zero_one}
 use Rattle.trace.specs.Trace.{Trace}
 use Rattle.events.specs.Events.{is_posted, with_post}
-use Rattle.events.proofs.EventBits.{with_post-length}
 use Rattle.masks.specs.Masks.{With, Apart}
 use Rattle.masks.proofs.Sets.{in_either}
 use Rattle.index.specs.Steps.{operation_at, ahead, holds, event, reached, Follows}
-use Rattle.index.proofs.Covering.{reached-in, between_none}
+use Rattle.index.proofs.Covering.{reached-in, reached-end, between_none, ends-cases}
 use Rattle.states.specs.States.{EndsRun, Blocked, next_of}
-use Rattle.walk.specs.Going.{Stopped, at_event, Entered, Moved, LowerStopped, LowestStretch}
+use Rattle.walk.specs.Going.{Stopped, at_end, at_left_out, at_event, Entered, Moved, LowerStopped, LowestStretch}
 use Rattle.walk.specs.Going.{Along, Went}
 use Rattle.walk.proofs.Releasing.{released-none, released-step, released-enter, entered, released-own, still}
 use Rattle.walk.proofs.Releasing.{stopped-blocked}
@@ -45,10 +44,8 @@ module _ {list : List ℕ} {q below from end last : ℕ} (low : q < 16) where
       record {
         from_on = omega arith;
         up_to_end = h;
-        words = k;
-        room = l;
         none = λ e. refl;
-        released = released-none;
+        released = released-none k l;
         moved = λ t a r counts x go. record {
           run = gone-plain t a q low r counts k (omega arith) go.first (gone-none t a q low r counts x);
           follows = follows-here go (omega arith) h;
@@ -87,10 +84,8 @@ module _ {list : List ℕ} {q below from end last : ℕ} (low : q < 16) where
           record {
             from_on = omega (arith, x.from_on);
             up_to_end = omega arith;
-            words = with_post-length events' (event (get_or list at 0)) ∙ x.words;
-            room = length-set waiting' (event (get_or list at 0)) 0 ∙ x.room;
             none = λ e. absurd (omega (arith, e, x.from_on));
-            released = released-step x.released (omega arith) x.words;
+            released = released-step x.released (omega arith);
             moved = moved;
             lowest = lowest;
           }
@@ -106,7 +101,7 @@ module _ {list : List ℕ} {q below from end last : ℕ} (low : q < 16) where
               rw fits (record {
                 run = gone-more t a q low r counts m.on m.run s.below s.other
                     (step-free s.tells events' free)
-                    (step-posted s.tells events' x.words free);
+                    (step-posted s.tells events' x.released.words free);
                 follows = record {
                   up_to_end = omega arith;
                   first = s.next;
@@ -137,20 +132,18 @@ module _ {list : List ℕ} {q below from end last : ℕ} (low : q < 16) where
         record {
           from_on = along_one.from_on;
           up_to_end = along_one.up_to_end;
-          words = along_one.words;
-          room = along_one.room;
           none = along_one.none;
           released = along_one.released;
           moved = λ t a r counts e go.
               let m = along_one.moved t a r counts e go in
               record {
-                run = gone-plain t a q low r counts along_one.words m.on m.follows.first m.run;
+                run = gone-plain t a q low r counts along_one.released.words m.on m.follows.first m.run;
                 follows = follows-here m.follows (omega arith) (omega arith);
                 on = omega (arith, m.on, m.follows.first.on);
               };
           lowest = λ t a r counts e go y.
               let m = along_one.moved t a r counts e go in
-              lowest-plain t a q low r counts along_one.words m.on m.follows.first m.run
+              lowest-plain t a q low r counts along_one.released.words m.on m.follows.first m.run
               (after y)
               (along_one.lowest t a r counts e go y);
         },
@@ -182,8 +175,6 @@ module _ {list : List ℕ} {q below from end last : ℕ} (low : q < 16) where
             along = record {
               from_on = along_one.from_on;
               up_to_end = along_one.up_to_end;
-              words = along_one.words;
-              room = along_one.room;
               none = λ e. absurd (omega (arith, e, x.from_on));
               released = released-own along_one.released w;
               moved = along_one.moved;
@@ -203,10 +194,8 @@ module _ {list : List ℕ} {q below from end last : ℕ} (low : q < 16) where
           along = record {
             from_on = x.from_on;
             up_to_end = x.up_to_end;
-            words = x.words;
-            room = rw y.is (length-set waiting' e y.mask ∙ x.room);
             none = x.none;
-            released = released-enter x.released (omega arith) x.room y;
+            released = released-enter x.released (omega arith) y;
             moved = rw same at x.moved;
             lowest = rw same at x.lowest;
           };
@@ -227,4 +216,16 @@ module _ {list : List ℕ} {q below from end last : ℕ} (low : q < 16) where
             let (need, none) = tests (holds (get_or list at 0)) (is_posted events' e) held in
             let s = go.each at (omega arith) h in
             at_event e (omega arith) (s.tells.needed e ∙ rw (need, eq-eqb e e refl)) none
-            (entered x.released (omega arith) x.room y)
+            (entered x.released (omega arith) y)
+
+  -- ---- at the end
+
+  pub along-end : {events waiting events' waiting' : List ℕ} {at freed : ℕ}
+      → Along list q below from end last events waiting events' waiting' at (reached list end last at) freed → end ≤ at
+      → Went list q below from end last events waiting events' waiting' at last freed
+  along-end {events} {waiting} {events'} {waiting'} {at} {freed} x h =
+      record { along = rw (reached-end list last h) at x; stopped = λ t a go. inr (stopped t a go) }
+    where
+      stopped : (t : Trace) (a : ℕ) → Follows t a list q at end last last
+          → Stopped t a events' waiting' q (operation_at t q last)
+      stopped t a go = elim (ends-cases go.ending) [ inl e ↦ at_end e | inr e ↦ at_left_out e ]

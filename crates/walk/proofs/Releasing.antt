@@ -1,36 +1,32 @@
 -- The waiters while a worker goes on. In order: nobody is freed; an event is posted, and who waited for it is freed;
 -- the worker comes to wait; it is itself among those freed; who has stopped stays so, or is freed.
 use mathlib.Core.Bool.{false}
-use mathlib.Core.List.{List, [], ◌∷◌}
+use mathlib.Core.List.{List}
 use mathlib.Core.Logic.{◌⊎◌, inl, inr, ◌≢◌}
 use mathlib.Core.Path.{◌≡◌, refl, sym, ◌∙◌}
 use native.Mathlib.Omega.{arith}
-use Prim.Native.Nat.{ℕ, zero, suc, ◌<◌}
+use Prim.Native.Nat.{ℕ, ◌<◌}
 use lib.Bits.{bit_or}
-use lib.ListN.{length, get_or, set}
+use lib.ListN.{length, get_or, set, length-set}
 use lib.Seq.{get_or-set_same, get_or-set_other}
 use borrow.Author.Tests.{ne_eqb}
 use Rattle.basics.proofs.Booleans.{equal?}
 use Rattle.trace.specs.Trace.{Trace}
 use Rattle.events.specs.Events.{is_posted, with_post}
-use Rattle.events.proofs.EventBits.{posted-after}
+use Rattle.events.proofs.EventBits.{posted-after, with_post-length}
 use Rattle.masks.specs.Masks.{◌is_in◌, With}
 use Rattle.masks.proofs.Sets.{in-none, in_either, in_left, in_right}
 use Rattle.states.specs.States.{Blocked, no_more, left_out, waits}
 use Rattle.walk.specs.Going.{Released, Entered, Stopped, at_end, at_left_out, at_event}
 
--- nobody is at a place of a list that is cleared
-pub cleared : (l : List ℕ) (i : ℕ) → get_or (set l i 0) i 0 ≡ 0
-cleared [] zero = refl
-cleared [] (suc i) = refl
-cleared (x ∷ l) zero = refl
-cleared (x ∷ l) (suc i) = cleared l i
-
 -- ---- nobody is freed
 
-pub released-none : {q : ℕ} {events waiting : List ℕ} → Released q events waiting events waiting 0
-released-none =
+pub released-none : {q : ℕ} {events waiting : List ℕ} → length events ≡ 4 → length waiting ≡ 256
+    → Released q events waiting events waiting 0
+released-none h k =
     record {
+      room = k;
+      words = h;
       keeps = λ e p l n i. inl (n, i);
       freed_waited = λ p i. absurd (in-none i);
       waits_waited = λ e p i. inr i;
@@ -40,10 +36,12 @@ module _ {q : ℕ} {events waiting events' waiting' : List ℕ} {freed : ℕ}
     (x : Released q events waiting events' waiting' freed) where
   -- ---- e is posted, and who waited for it is free
 
-  pub released-step : {e : ℕ} → e < 256 → length events' ≡ 4
+  pub released-step : {e : ℕ} → e < 256
       → Released q events waiting (with_post events' e) (set waiting' e 0) (bit_or freed (get_or waiting' e 0))
-  released-step {e} l words =
+  released-step {e} l =
       record {
+        room = length-set waiting' e 0 ∙ x.room;
+        words = with_post-length events' e ∙ x.words;
         keeps = λ d p h n i. on d p (x.keeps d p h n i) (equal? d e);
         freed_waited = λ p i. back p (in_either freed (get_or waiting' e 0) i);
         waits_waited = λ d p i. who d p i (equal? d e);
@@ -57,7 +55,7 @@ module _ {q : ℕ} {events waiting events' waiting' : List ℕ} {freed : ℕ}
       on d p (inl (n, i)) (inl z) = inr (in_right freed (get_or waiting' e 0) (rw z at i))
       on d p (inl (n, i)) (inr z) =
           inl (
-            posted-after events' e d words l ∙ rw (ne_eqb e d (λ y. z (sym y))) n,
+            posted-after events' e d x.words l ∙ rw (ne_eqb e d (λ y. z (sym y))) n,
             rw (get_or-set_other waiting' e d 0 0 z) i,
           )
 
@@ -68,15 +66,14 @@ module _ {q : ℕ} {events waiting events' waiting' : List ℕ} {freed : ℕ}
 
       who : (d p : ℕ) → p is_in get_or (set waiting' e 0) d 0 → (d ≡ e) ⊎ (d ≢ e)
           → (p ≡ q) ⊎ (p is_in get_or waiting d 0)
-      who d p i (inl z) = absurd (in-none (rw (z, cleared waiting' e) at i))
+      who d p i (inl z) = absurd (in-none (rw (z, get_or-set_same waiting' e 0 0 (omega (arith, l, x.room))) at i))
       who d p i (inr z) = x.waits_waited d p (rw (get_or-set_other waiting' e d 0 0 z) at i)
 
   -- ---- q waits for e
 
-  module _ {e : ℕ} (l : e < 256) (room : length waiting' ≡ 256) {waiting'' : List ℕ}
-      (y : Entered q e waiting' waiting'') where
+  module _ {e : ℕ} (l : e < 256) {waiting'' : List ℕ} (y : Entered q e waiting' waiting'') where
     at-e : get_or waiting'' e 0 ≡ y.mask
-    at-e = rw y.is (get_or-set_same waiting' e y.mask 0 (omega (arith, l, room)))
+    at-e = rw y.is (get_or-set_same waiting' e y.mask 0 (omega (arith, l, x.room)))
 
     elsewhere : (d : ℕ) → d ≢ e → get_or waiting'' d 0 ≡ get_or waiting' d 0
     elsewhere d z = rw y.is (get_or-set_other waiting' e d y.mask 0 z)
@@ -84,6 +81,8 @@ module _ {q : ℕ} {events waiting events' waiting' : List ℕ} {freed : ℕ}
     pub released-enter : Released q events waiting events' waiting'' freed
     released-enter =
         record {
+          room = rw y.is (length-set waiting' e y.mask ∙ x.room);
+          words = x.words;
           keeps = λ d p h n i. on d p (x.keeps d p h n i) (equal? d e);
           freed_waited = x.freed_waited;
           waits_waited = λ d p i. who d p i (equal? d e);
@@ -111,6 +110,8 @@ module _ {q : ℕ} {events waiting events' waiting' : List ℕ} {freed : ℕ}
   pub released-own : {freed' : ℕ} → With freed q freed' → Released q events waiting events' waiting' freed'
   released-own w =
       record {
+        room = x.room;
+        words = x.words;
         keeps = λ d p h n i. elim (x.keeps d p h n i) [ inl j ↦ inl j | inr j ↦ inr ((w.each p).1 (inl j)) ];
         freed_waited = λ p i. elim ((w.each p).0 i) [ inl j ↦ x.freed_waited p j | inr z ↦ inl z ];
         waits_waited = x.waits_waited;

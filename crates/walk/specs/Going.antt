@@ -54,6 +54,8 @@ pub record Entered (q e : ℕ) (waiting waiting' : List ℕ) : Type 0 where
 -- whoever waits for an event that is not posted still does, or is freed; but for q nobody is freed who did not wait,
 -- and nobody comes to wait
 pub record Released (q : ℕ) (events waiting events' waiting' : List ℕ) (freed : ℕ) : Type 0 where
+  pub room : length waiting' ≡ 256
+  pub words : length events' ≡ 4
   pub keeps : (e p : ℕ) → e < 256 → is_posted events e ≡ false → p is_in get_or waiting e 0
       → ((is_posted events' e ≡ false) × (p is_in get_or waiting' e 0)) ⊎ (p is_in freed)
   pub freed_waited : (p : ℕ) → p is_in freed → (p ≡ q) ⊎ ((e : ℕ) × (p is_in get_or waiting e 0))
@@ -82,8 +84,6 @@ pub record Along (list : List ℕ) (q below from end last : ℕ) (events waiting
     : Type 0 where
   pub from_on : from ≤ at
   pub up_to_end : at ≤ end
-  pub words : length events' ≡ 4
-  pub room : length waiting' ≡ 256
   pub none : at ≡ from → freed ≡ 0
   pub released : Released q events waiting events' waiting' freed
   pub moved : (t : Trace) (a : ℕ) (r counts : List ℕ) → EndsRun t a r counts events
