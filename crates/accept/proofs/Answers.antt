@@ -4,7 +4,6 @@ use mathlib.Core.Logic.Iff
 use mathlib.Core.Logic.{◌↔◌}
 use mathlib.Core.Path.{◌≡◌, ap}
 use Prim.Native.Nat.{ℕ}
-use Rattle.basics.proofs.Booleans.{zero_one}
 use Rattle.trace.specs.Premises.{HoldsTrace}
 use Rattle.trace.specs.Reading.{refused, reads, file_reading, trace_of}
 use Rattle.trace.specs.Trace.{Trace, size}

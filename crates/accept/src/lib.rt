@@ -3,28 +3,34 @@
 #![tactic(auto)]
 
 ghost use Rattle.std.specs.Prelude.{◌≡◌};
+ghost use Rattle.index.specs.Indexed.{Indexed};
 ghost use Rattle.trace.specs.Reading.{trace_of};
 ghost use Rattle.trace.specs.Trace.{size};
 ghost use Rattle.courses.specs.Courses.{Ended};
 ghost use Rattle.accept.specs.Acceptance.{accept_answer};
 
 use index::{Index, IndexedFile};
-use trace::{Counts, Refusal};
+use trace::{Counts, Refusal, TraceFile};
 
 // Question 10, from the done counts at the end of the walk that leaves out nothing.
-pub fn accept_if_done(x: &IndexedFile<'_>, done: &[u16; 16]) -> Result<Counts, Refusal>
-    requires { Ended (trace_of x.now.trace.bytes.now) (size (trace_of x.now.trace.bytes.now)) done.now }
-    ensures { result ≡ accept_answer x.now.trace.bytes.now }
+pub fn accept_if_done(
+    trace: &TraceFile<'_>,
+    index: &Index,
+    done: &[u16; 16],
+) -> Result<Counts, Refusal>
+    requires { Indexed (trace_of trace.now.bytes.now) index.now.order index.now.starts
+        × Ended (trace_of trace.now.bytes.now) (size (trace_of trace.now.bytes.now)) done.now }
+    ensures { result ≡ accept_answer trace.now.bytes.now }
 {
-    let n = x.trace.operations as usize;
-    let k = places::lowest_left(x.index, x.trace.workers as usize, n, done);
+    let n = trace.operations as usize;
+    let k = places::lowest_left(index, trace.workers as usize, n, done);
     if k < n {
         return Err(Refusal {
             number: 10,
             place: k as u32,
         });
     }
-    Ok(x.trace.counts())
+    Ok(trace.counts())
 }
 
 // Question 10 by a walk.
@@ -32,7 +38,7 @@ pub fn accept_if_complete(x: &IndexedFile<'_>) -> Result<Counts, Refusal>
     ensures { result ≡ accept_answer x.now.trace.bytes.now }
 {
     let end = courses::walk_whole(x.index, x.trace.workers as usize);
-    accept_if_done(x, &end.done)
+    accept_if_done(&x.trace, x.index, &end.done)
 }
 
 // Asks the file's questions, of any bytes: the counts of an accepted file, or the refusal.

@@ -9,6 +9,7 @@ use lib.Dec.{leb}
 use lib.ListN.{get_or}
 use Rattle.runs.specs.Workers.{earlier}
 use lib.IntN.{ℤ, pos, negsuc}
+use Rattle.trace.specs.declared.TraceFile.{TraceFile}
 use Rattle.trace.specs.Premises.{HoldsTrace}
 use Rattle.trace.specs.Reading.{Reading, refused, trace_of}
 use Rattle.trace.specs.Refusals.{by_earlier, by_this}
@@ -81,6 +82,10 @@ pub record Operations (bytes : List ℕ) (n : ℕ) (order starts : List ℕ) : T
   pub workers : ℕ
   pub holds : HoldsTrace bytes workers n
   pub indexed : Indexed (trace_of bytes) order starts
+
+pub indexed-operations : (trace : TraceFile) {order starts : List ℕ} → Indexed (trace_of trace.bytes.now) order starts
+    → Operations trace.bytes.now trace.operations order starts
+indexed-operations trace x = record { workers = trace.workers; holds = trace.holds; indexed = x }
 
 -- worker and place of an operation, for the walk without it
 module _ {bytes : List ℕ} {p n : ℕ} {order starts list ends : List ℕ}

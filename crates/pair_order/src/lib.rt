@@ -6,12 +6,13 @@ ghost use Rattle.trace.specs.Reading.{trace_of};
 ghost use Rattle.runs.specs.Workers.{earlier};
 ghost use Rattle.trace.specs.Trace.{worker_of};
 ghost use Rattle.model.specs.Computed.{must_precede_in, pair_order};
+ghost use Rattle.index.specs.Indexed.{Indexed};
 ghost use Rattle.courses.specs.Courses.{Ended};
 ghost use Rattle.pair_order.specs.Order.{order_answer};
 ghost use Rattle.pair_order.specs.Premises.{Pair, NoPair};
 
 use index::{Index, IndexedFile};
-use trace::Refusal;
+use trace::{Refusal, TraceFile};
 
 // Are two numbers different ones of so many operations?
 pub fn is_pair(operations: u32, a: u32, b: u32) -> bool
@@ -48,21 +49,28 @@ pub fn refuse(x: &IndexedFile<'_>, a: u32, b: u32) -> Refusal
 }
 
 // Must a precede b? From the done counts at the end of the walk without a: b's worker has not got past b.
-pub fn must_precede(x: &IndexedFile<'_>, done: &[u16; 16], a: usize, b: usize) -> bool
-    requires { Ended (trace_of x.now.trace.bytes.now) a done.now × (b < x.now.trace.operations) × (a ≢ b) }
-    ensures { result ≡ must_precede_in (trace_of x.now.trace.bytes.now) a b }
+pub fn must_precede(
+    trace: &TraceFile<'_>,
+    index: &Index,
+    done: &[u16; 16],
+    a: usize,
+    b: usize,
+) -> bool
+    requires { Indexed (trace_of trace.now.bytes.now) index.now.order index.now.starts
+        × Ended (trace_of trace.now.bytes.now) a done.now × (b < trace.now.operations) × (a ≢ b) }
+    ensures { result ≡ must_precede_in (trace_of trace.now.bytes.now) a b }
 {
-    let q = x.trace.worker(b);
-    let next = places::next_operation(x.index, x.trace.operations as usize, done, q);
+    let q = trace.worker(b);
+    let next = places::next_operation(index, trace.operations as usize, done, q);
     next <= b
 }
 
 // How many of its worker's operations come before operation k.
-pub fn count_prior(x: &IndexedFile<'_>, k: usize) -> u16
-    requires { k < x.now.trace.operations }
-    ensures { result ≡ earlier (worker_of (trace_of x.now.trace.bytes.now)) k }
+pub fn count_prior(trace: &TraceFile<'_>, index: &Index, k: usize) -> u16
+    requires { Indexed (trace_of trace.now.bytes.now) index.now.order index.now.starts × (k < trace.now.operations) }
+    ensures { result ≡ earlier (worker_of (trace_of trace.now.bytes.now)) k }
 {
-    places::count_prior(x.index, x.trace.worker(k), k)
+    places::count_prior(index, trace.worker(k), k)
 }
 
 // The order where a need not precede b: by the walk without b.
@@ -70,9 +78,9 @@ fn order_back(x: &IndexedFile<'_>, a: usize, b: usize) -> i8
     requires { Pair x.now.trace.operations a b × (must_precede_in (trace_of x.now.trace.bytes.now) a b ≡ false) }
     ensures { result ≡ pair_order (trace_of x.now.trace.bytes.now) a b }
 {
-    let prior = count_prior(x, b);
+    let prior = count_prior(&x.trace, x.index, b);
     let end = courses::walk_without(x.index, x.trace.workers as usize, x.trace.worker(b), prior);
-    if must_precede(x, &end.done, b, a) {
+    if must_precede(&x.trace, x.index, &end.done, b, a) {
         return 1;
     }
     0
@@ -84,10 +92,10 @@ fn order_between(x: &IndexedFile<'_>, a: usize, b: usize) -> Result<i8, Refusal>
     requires { Pair x.now.trace.operations a b }
     ensures { result ≡ order_answer x.now.trace.bytes.now a b }
 {
-    let prior = count_prior(x, a);
+    let prior = count_prior(&x.trace, x.index, a);
     let end = courses::walk_twice(x.index, x.trace.workers as usize, x.trace.worker(a), prior);
-    accept::accept_if_done(x, &end.whole)?;
-    if must_precede(x, &end.held, a, b) {
+    accept::accept_if_done(&x.trace, x.index, &end.whole)?;
+    if must_precede(&x.trace, x.index, &end.held, a, b) {
         return Ok(-1);
     }
     Ok(order_back(x, a, b))

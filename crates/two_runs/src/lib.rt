@@ -51,7 +51,7 @@ fn find_run(x: &IndexedFile<'_>, k: usize, run: &mut [u16; 1024]) -> Twice
     requires { k < x.now.trace.operations }
     ensures { WritesRun (trace_of x.now.trace.bytes.now) k result.held result.whole run.new }
 {
-    let prior = pair_order::count_prior(x, k);
+    let prior = pair_order::count_prior(&x.trace, x.index, k);
     run_writer::write_run(
         x.index,
         x.trace.workers as usize,
@@ -78,7 +78,7 @@ fn runs_if_unordered(
 {
     let mut other = [0u16; 1024];
     let end = find_run(x, a as usize, &mut other);
-    if pair_order::must_precede(x, &end.held, a as usize, b as usize) {
+    if pair_order::must_precede(&x.trace, x.index, &end.held, a as usize, b as usize) {
         return Err(Refusal {
             number: 14,
             place: 0,
@@ -101,8 +101,8 @@ fn runs_between(
 {
     let mut one = [0u16; 1024];
     let end = find_run(x, b as usize, &mut one);
-    accept::accept_if_done(x, &end.whole)?;
-    if pair_order::must_precede(x, &end.held, b as usize, a as usize) {
+    accept::accept_if_done(&x.trace, x.index, &end.whole)?;
+    if pair_order::must_precede(&x.trace, x.index, &end.held, b as usize, a as usize) {
         return Err(Refusal {
             number: 14,
             place: 0,

@@ -14,4 +14,4 @@ accept_if_done-requires c =
     let x = c.args.x.now in
     let h = x.trace.holds in
     let (run, end) = c.walk_whole-end.ensures _ (trace-fits h) h.workers x.handed.listed in
-    record { run = run; events = _; exhausted = end }
+    (x.handed.indexed, record { run = run; events = _; exhausted = end })

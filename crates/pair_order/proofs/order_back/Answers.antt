@@ -10,13 +10,16 @@ walk_without-end-requires c =
     let low = worker-low (readable-operations x) c.requires.0.second_below c.worker.ensures.0 in
     (x.holds.most, low.0, readable-opens x)
 
+pub count_prior-prior-requires : goal.count_prior-prior-requires
+count_prior-prior-requires c = (c.args.x.now.handed.indexed, c.requires.0.second_below)
+
 pub must_precede-requires : goal.must_precede-requires
 must_precede-requires c =
     let x = readable c.args.x.now in
     let y = c.requires.0 in
     let left = readable-left-out x y.second_below c.worker.ensures.0 c.count_prior-prior.ensures in
     let (run, end) = c.walk_without-end.ensures _ _ left in
-    (record { run = run; events = _; exhausted = end }, y.first_below, λ z. y.differ (sym z))
+    (x.handed.indexed, record { run = run; events = _; exhausted = end }, y.first_below, λ z. y.differ (sym z))
 
 pub returns-then-must_precede : goal.returns-then-must_precede
 returns-then-must_precede c =

@@ -15,18 +15,21 @@ walk_twice-end-requires c =
     let low = worker-low (readable-operations x) c.requires.first_below c.worker.ensures.0 in
     (x.holds.most, low.0, readable-opens x)
 
+pub count_prior-prior-requires : goal.count_prior-prior-requires
+count_prior-prior-requires c = (c.args.x.now.handed.indexed, c.requires.first_below)
+
 pub accept_if_done-requires : goal.accept_if_done-requires
 accept_if_done-requires c =
     let x = readable c.args.x.now in
     let left = readable-left-out x c.requires.first_below c.worker.ensures.0 c.count_prior-prior.ensures in
-    (c.walk_twice-end.ensures _ _ left).1
+    (x.handed.indexed, (c.walk_twice-end.ensures _ _ left).1)
 
 pub must_precede-requires : goal.must_precede-requires
 must_precede-requires c =
     let x = readable c.args.x.now in
     let y = c.requires in
     let left = readable-left-out x y.first_below c.worker.ensures.0 c.count_prior-prior.ensures in
-    ((c.walk_twice-end.ensures _ _ left).0, y.second_below, y.differ)
+    (x.handed.indexed, (c.walk_twice-end.ensures _ _ left).0, y.second_below, y.differ)
 
 pub returns-in_err-accept_if_done : goal.returns-in_err-accept_if_done
 returns-in_err-accept_if_done c =
