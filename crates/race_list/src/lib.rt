@@ -27,8 +27,7 @@ fn write_row(list: &mut [Race], at: usize, count: usize, lower: u16, row: &[u16;
     }
 }
 
-// Writes all races, `count` of them, to the front of the list. The rows end with the last race, before the operations
-// do.
+// Writes all races, `count` of them, to the front of the list.
 fn write_races(filled: &FilledTable<'_>, count: usize, list: &mut [Race])
     requires { (count ≡ race_count (trace_of filled.now.trace.bytes.now)) × (count ≤ length list.old) }
     ensures { list.new ≡ written_over (race_list (trace_of filled.now.trace.bytes.now)) list.old }
@@ -37,6 +36,7 @@ fn write_races(filled: &FilledTable<'_>, count: usize, list: &mut [Race])
     let mut row = [0u16; 1024];
     let mut a: usize = 0;
     let mut at: usize = 0;
+    // not over all operations: the rows end with the last race
     while at < count {
         let found = search.next_row(&mut row);
         write_row(list, at, found, a as u16, &row);

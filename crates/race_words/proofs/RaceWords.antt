@@ -9,7 +9,7 @@ use lib.ListN.{get_or}
 use borrow.Author.Tests.{ltb-true, lt-ltb, le-ltb, ne_eqb}
 use Rattle.basics.proofs.Booleans.{less?}
 use Rattle.trace.specs.Trace.{Trace, size, operation}
-use Rattle.words.specs.Words.{is_in, Above, Common}
+use Rattle.words.specs.Words.{is_in, Common}
 use Rattle.words.proofs.Sets.{all_in}
 use Rattle.model.specs.Computed.{unordered_in}
 use Rattle.conflicts.specs.declared.Cells.{Cells}
@@ -28,15 +28,6 @@ use Rattle.race_words.specs.RaceWords.{After, RaceWord, ToNote, RowReady}
 
 pub after-all : {a v : ℕ} → a < 32 * v → After a v 4294967295
 after-all {a} {v} l = record { each = λ i m. all_in i m ∙ sym (lt-ltb a (32 * v + i) (omega arith)) }
-
-pub after-some : {a v r : ℕ} → 32 * v ≤ a → a / 32 ≤ v → Above (a % 32) r → After a v r
-after-some {a} {v} l m h = record { each = λ i n. h.each i n ∙ same i }
-  where
-    same : (i : ℕ) → ltb (a % 32) i ≡ ltb a (32 * v + i)
-    same i = elim (less? (a % 32) i) [
-      | inl k ↦ rw (lt-ltb (a % 32) i k, lt-ltb a (32 * v + i) (omega arith))
-      | inr k ↦ rw (le-ltb (a % 32) i k, le-ltb a (32 * v + i) (omega arith))
-    ]
 
 -- ---- races
 

@@ -1,3 +1,2 @@
--- TableEntries: what is known of the file and of two of its operations; an entry lies inside the table, and two entries
--- tell whether an operation must precede another.
+-- TableEntries: what is known of the file; two entries tell whether an operation must precede another.
 pub mod TableEntries

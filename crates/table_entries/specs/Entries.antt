@@ -14,12 +14,6 @@ pub record HoldsTable (bytes table : List ℕ) : Type 0 where
   pub entry : (k q : ℕ) → k < size (trace_of bytes) → q < (trace_of bytes).workers
       → get_or table (k * (trace_of bytes).workers + q) 0 ≡ get_or (row (trace_of bytes) k) q 0
 
--- where entry q of row k stands, in a table that holds n rows of p numbers
-pub record Inside (table : List ℕ) (p k q : ℕ) : Type 0 where
-  pub row_few : k * p ≤ 16384
-  pub few : k * p + q < 16384
-  pub inside : k * p + q < length table
-
 -- two different operations of it
 pub record PairInTable (bytes table : List ℕ) (p a b : ℕ) : Type 0 where
   pub holds : HoldsTable bytes table

