@@ -1,4 +1,5 @@
--- Filling the table. In order: the start of a walk that is kept along worker q; worker after worker.
+-- Filling the table. In order: the start of a walk that is kept along worker q; worker after worker, whose start no
+-- answer cites, since the check finds it alone.
 use mathlib.Core.List.{List, []}
 use mathlib.Core.Logic.{◌⊎◌, inl, inr, ◌≢◌}
 use mathlib.Core.Path.{◌≡◌, refl, sym, ◌∙◌}
@@ -14,7 +15,7 @@ use Rattle.masks.specs.Masks.{◌is_in◌, Below, Without}
 use Rattle.masks.proofs.Sets.{in-none}
 use Rattle.index.specs.Indexed.{Indexed}
 use Rattle.index.specs.Steps.{operation_at}
-use Rattle.index.proofs.Lookups.{holds-places, parts-end}
+use Rattle.index.proofs.Lookups.{holds-places, parts-begin, parts-end}
 use Rattle.index.proofs.Operations.{at-rth}
 use Rattle.states.specs.States.{next_of}
 use Rattle.states.proofs.Runs.{ends-start}
@@ -25,7 +26,7 @@ use Rattle.courses.proofs.Starting.{start-sized, courses-whole}
 use Rattle.lent.specs.Written.{written_over}
 use Rattle.table_rows.specs.Filling.{RowsTo}
 use Rattle.table_rows.specs.Rows.{order_table}
-use Rattle.table_rows.proofs.Keeping.{KeptAt, Known}
+use Rattle.table_rows.proofs.Keeping.{KeptAt, KeptTo, kept-to, Known}
 use Rattle.table_rows.proofs.Stretch.{none-own}
 use Rattle.table_rows.proofs.Rows.{rows_all}
 
@@ -64,25 +65,39 @@ module _ {bytes : List ℕ} {p n : ℕ} {order starts list ends before : List �
       stands v h (inl e) = inr (at_left_out (rw (e, zeros 16 q) refl))
       stands v h (inr d) = inl ((w.each v).1 (every.all v (rw x.holds.workers at h), d))
 
-  pub kept-start : {counts events waiting : List ℕ} → Unstarted counts events waiting → {all ready : ℕ} → Below p all
-      → Without all q ready
-      → KeptAt (trace_of bytes) starts list ends lasts q 0 (get_or starts q 0) firsts (set counts q 0) events waiting
-      ready before before
-  kept-start u every w =
+  pub kept-start : {all ready : ℕ} → Below p all → Without all q ready
+      → KeptAt (trace_of bytes) starts list ends lasts q 0 (get_or starts q 0) firsts (replicate 16 0) (replicate 4 0)
+      (replicate 256 0) ready before before
+  kept-start every w =
       let listed = x.handed.listed in
-      rw (u.undone, u.unposted, u.unawaited, none-own q) (record {
+      record {
         sized = start-sized (λ r l. ((listed.follows r l).up_to_end, listed.few r l)) begun;
         upto = omega arith;
-        own-list = λ l. lists.each q (omega (arith, hq, x.holds.most));
+        own-list = lists.each q (omega (arith, hq, x.holds.most));
         going = λ l. ([], going-first every w l);
         same_length = refl;
         rows = λ old r. let e : get_or starts q 0 + 0 ≡ get_or starts q 0 = omega arith in rw e r;
-      })
+      }
+
+  -- the same of the arrays that a walk begins with
+  pub kept-begun : {counts events waiting : List ℕ} → Unstarted counts events waiting → {all ready : ℕ} → Below p all
+      → Without all q ready
+      → KeptTo (trace_of bytes) starts list ends lasts q 0 (get_or starts q 0) firsts (set counts q 0) events waiting
+      ready before before
+  kept-begun u every w = rw (u.undone, u.unposted, u.unawaited, none-own q) (kept-to (kept-start every w))
 
 -- ---- worker after worker
 
 module _ {bytes : List ℕ} {p n : ℕ} (h : HoldsTrace bytes p n) {order starts : List ℕ}
     (i : Indexed (trace_of bytes) order starts) where
+  pub workers-start : (old : List ℕ) → RowsTo (trace_of bytes) starts (get_or starts 0 0) old old
+  workers-start old =
+      record {
+        same_length = refl;
+        rows = λ k q l m j. absurd (omega (arith, m, parts-begin (holds-places h i)));
+        past = λ j l. refl;
+      }
+
   pub workers-all : {q : ℕ} {old now : List ℕ} → RowsTo (trace_of bytes) starts (get_or starts q 0) old now → q ≡ p
       → n * p ≤ length old → now ≡ written_over (order_table (trace_of bytes)) old
   workers-all {q} r e room =

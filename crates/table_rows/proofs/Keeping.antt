@@ -1,5 +1,6 @@
 -- The rows of one worker's operations, for which the walk is kept. In order: the walk to its end; the stretch up to a
--- step that frees somebody, and its rows; behind it; the end.
+-- step that frees somebody, and its rows; behind it; the end. `kept-last` and `kept-end` no answer cites: the loop ends
+-- in one way, by `kept-to_end`.
 use mathlib.Core.List.{List, ◌++◌}
 use mathlib.Core.Path.{◌≡◌, refl, sym, ap, ◌∙◌}
 use native.Mathlib.Nat.{suc-mul, mul-le-mul_right}
@@ -23,7 +24,7 @@ use Rattle.courses.specs.Courses.{Begun}
 use Rattle.accept.specs.Acceptance.{AcceptedTrace}
 use Rattle.accept.proofs.Questions.{accepted-run}
 use Rattle.table_rows.specs.Filling.{RoomAt, RoomAlong, Fillable, RowsTo, RowsAlong, FillsPart}
-use Rattle.table_rows.specs.Passing.{Own, OwnPassed, PassesOwn}
+use Rattle.table_rows.specs.Passing.{Own, OwnPassed, Passes}
 use Rattle.table_rows.proofs.Own.{own-done}
 
 -- the rows of worker q's operations with fewer than i earlier ones are written, and the walk is kept for that with i;
@@ -32,12 +33,29 @@ pub record KeptAt (t : Trace) (starts list ends lasts : List ℕ) (q i own : ℕ
     (ready : ℕ) (before now : List ℕ) : Type 0 where
   pub sized : Sized ends nexts
   pub upto : i ≤ get_or lasts q 0
-  pub own-list : i < get_or lasts q 0 → Follows t (size t) list q own (get_or ends q 0) (get_or lasts q 0) i
+  pub own-list : Follows t (size t) list q own (get_or ends q 0) (get_or lasts q 0) i
   pub going : operation_at t q i < size t
       → (r : List ℕ) × Going t (operation_at t q i) q r list ends lasts nexts counts events waiting ready
   pub same_length : length now ≡ length before
   pub rows : (old : List ℕ) → RowsTo t starts (get_or starts q 0) old before
       → RowsTo t starts (get_or starts q 0 + i) old now
+
+-- the same while the worker has an operation left; at its end the rows alone count
+pub record KeptTo (t : Trace) (starts list ends lasts : List ℕ) (q i own : ℕ) (nexts counts events waiting : List ℕ)
+    (ready : ℕ) (before now : List ℕ) : Type 0 where
+  pub sized : Sized ends nexts
+  pub upto : i ≤ get_or lasts q 0
+  pub kept : i < get_or lasts q 0
+      → KeptAt t starts list ends lasts q i own nexts counts events waiting ready before now
+  pub same_length : length now ≡ length before
+  pub rows : (old : List ℕ) → RowsTo t starts (get_or starts q 0) old before
+      → RowsTo t starts (get_or starts q 0 + i) old now
+
+pub kept-to : {t : Trace} {starts list ends lasts : List ℕ} {q i own : ℕ} {nexts counts events waiting : List ℕ}
+    {ready : ℕ} {before now : List ℕ}
+    → KeptAt t starts list ends lasts q i own nexts counts events waiting ready before now
+    → KeptTo t starts list ends lasts q i own nexts counts events waiting ready before now
+kept-to k = record { sized = k.sized; upto = k.upto; kept = λ l. k; same_length = k.same_length; rows = k.rows }
 
 -- an accepted file with its index, and a table that holds n × p numbers
 pub record Known (bytes : List ℕ) (p n : ℕ) (order starts list ends table : List ℕ) : Type 0 where
@@ -98,7 +116,7 @@ module _ {bytes : List ℕ} {p n : ℕ} {order starts list ends before : List �
           complete = accepted-run x.accepted;
           all = last-count;
           left = l;
-          follows = k.own-list l;
+          follows = k.own-list;
           so_far = r ++ s;
           going = rw still on;
         }
@@ -106,7 +124,7 @@ module _ {bytes : List ℕ} {p n : ℕ} {order starts list ends before : List �
     -- ---- the stretch, and its rows
 
     module _ {at to freed : ℕ} {events'' waiting'' : List ℕ}
-        (s : PassesOwn list q own (get_or ends q 0) (get_or lasts q 0) events' waiting' events'' waiting'' at to freed) where
+        (s : Passes list q own (get_or ends q 0) (get_or lasts q 0) events' waiting' events'' waiting'' at to freed) where
       passed : OwnPassed t list ends lasts nexts' counts' q i at to events'' waiting'' freed
       passed = s.passed t ends lasts nexts' counts' i refl refl own_at
 
@@ -117,17 +135,19 @@ module _ {bytes : List ℕ} {p n : ℕ} {order starts list ends before : List �
       part_end : get_or starts (q + 1) 0 ≤ n
       part_end = part-start places (q + 1) (omega (arith, low))
 
-      pub room-along : RoomAlong p q i to order starts now
-      room-along =
+      -- the counts are as long as those of the walk
+      pub room-along : {counts : List ℕ} → length counts ≡ 16 → RoomAlong p q i to order starts counts now
+      room-along {counts} long =
           record {
             up = omega (arith, passed.up);
             own = low;
             known = hq;
+            counters = long;
             places = omega (arith, passed.most, last-place, part_end, x.holds.few);
             each = each;
           }
         where
-          each : (m : ℕ) → i ≤ m → m < to → RoomAt p (get_or order (get_or starts q 0 + m) 0) now
+          each : (m : ℕ) → i ≤ m → m < to → RoomAt p (get_or order (get_or starts q 0 + m) 0) counts now
           each m h j =
               let at_place : get_or starts q 0 + m < n = omega (arith, j, passed.most, last-place, part_end) in
               let v = get_or order (get_or starts q 0 + m) 0 in
@@ -136,6 +156,7 @@ module _ {bytes : List ℕ} {p n : ℕ} {order starts list ends before : List �
               record {
                 workers = x.holds.most;
                 few = omega (arith, row-end, few-numbers x.holds);
+                counts_hold = omega (arith, long, x.holds.most);
                 table_holds = omega (arith, row-end, x.room, k.same_length);
               }
 
@@ -146,23 +167,44 @@ module _ {bytes : List ℕ} {p n : ℕ} {order starts list ends before : List �
 
         -- ---- behind it
 
-        pub kept_next : KeptAt t starts list ends lasts q to at nexts' (set counts' q to) events'' waiting'' freed before
-            now'
-        kept_next =
+        pub kept_next : to < get_or lasts q 0
+            → KeptAt t starts list ends lasts q to at nexts' (set counts' q to) events'' waiting'' freed before now'
+        kept_next j =
             record {
               sized = w.sized;
               upto = passed.most;
-              own-list = passed.follows;
+              own-list = passed.follows j;
               going = passed.going;
               same_length = a.same_length ∙ k.same_length;
               rows = rows-to;
             }
 
+        pub kept-on : KeptTo t starts list ends lasts q to at nexts' (set counts' q to) events'' waiting'' freed before
+            now'
+        kept-on =
+            record {
+              sized = w.sized;
+              upto = passed.most;
+              kept = kept_next;
+              same_length = a.same_length ∙ k.same_length;
+              rows = rows-to;
+            }
+
+        pub kept-last : get_or lasts q 0 ≤ to → FillsPart t starts q before now'
+        kept-last j old r =
+            let e : get_or starts q 0 + to ≡ get_or starts (q + 1) 0 = omega (arith, j, passed.most, last-place) in
+            rw e at (rows-to old r)
+
   -- ---- the end
+
+  pub kept-to_end : {i own : ℕ} {nexts counts events waiting : List ℕ} {ready : ℕ} {now : List ℕ}
+      → KeptTo t starts list ends lasts q i own nexts counts events waiting ready before now
+      → get_or lasts q 0 ≤ i → FillsPart t starts q before now
+  kept-to_end {i} k l old r =
+      let e : get_or starts q 0 + i ≡ get_or starts (q + 1) 0 = omega (arith, l, k.upto, last-place) in
+      rw e at (k.rows old r)
 
   pub kept-end : {i own : ℕ} {nexts counts events waiting : List ℕ} {ready : ℕ} {now : List ℕ}
       → KeptAt t starts list ends lasts q i own nexts counts events waiting ready before now
       → get_or lasts q 0 ≤ i → FillsPart t starts q before now
-  kept-end {i} k l old r =
-      let e : get_or starts q 0 + i ≡ get_or starts (q + 1) 0 = omega (arith, l, k.upto, last-place) in
-      rw e at (k.rows old r)
+  kept-end k = kept-to_end (kept-to k)

@@ -27,8 +27,8 @@ use Rattle.index.specs.Steps.{operation_at, holds, event, Tells, Plain, Between,
 use Rattle.index.proofs.Operations.{rth-at, at-rth, at-inside}
 use Rattle.states.specs.States.{EndsRun, Exhausted, next_of, Posted}
 use Rattle.states.proofs.Along.{own-count, own-free, own-ends}
-use Rattle.walk.specs.Going.{Stopped, at_end, at_left_out, at_event, Awake, Going, Released}
-use Rattle.walk.proofs.Releasing.{cleared, released-none, released-step, still}
+use Rattle.walk.specs.Going.{Stopped, at_end, at_left_out, at_event, Awake, Going}
+use Rattle.walk.proofs.Releasing.{Freed, cleared, freed-none, freed-step, freed-still}
 use Rattle.walk.proofs.Stretches.{step-posted, plain-posted}
 use Rattle.walk.proofs.Turns.{going-exhausted}
 use Rattle.courses.proofs.Cutting.{follows-other, apart_other, ends-other}
@@ -70,7 +70,7 @@ module _ {t : Trace} (f : Fits t) {q i a : ℕ} {r list ends lasts nexts counts 
 
   module _ {b : ℕ} (o' : Rth t q (i + 1) b) where
     going-freed : {events' waiting' : List ℕ} {freed : ℕ} → Posted t a events events'
-        → Released q events waiting events' waiting' freed
+        → Freed q events waiting events' waiting' freed
         → ((p : ℕ) → Awake waiting' freed p → Awake waiting 0 p)
         → Going t b q (r ++ a ∷ []) list ends lasts nexts (set counts q (i + 1)) events' waiting' freed
     going-freed {events'} {waiting'} {freed} posted released was =
@@ -101,7 +101,7 @@ module _ {t : Trace} (f : Fits t) {q i a : ℕ} {r list ends lasts nexts counts 
             go : (p is_in 0) ⊎ Stopped t a events waiting p (next_of t counts p)
                 → (p is_in freed) ⊎ Stopped t b events' waiting' p (next_of t counts p)
             go (inl h) = absurd (in-none h)
-            go (inr h) = elim (still released h) [ inl j ↦ inl j | inr j ↦ inr (other j) ]
+            go (inr h) = elim (freed-still released h) [ inl j ↦ inl j | inr j ↦ inr (other j) ]
               where
                 other : Stopped t a events' waiting' p (next_of t counts p)
                     → Stopped t b events' waiting' p (next_of t counts p)
@@ -109,8 +109,8 @@ module _ {t : Trace} (f : Fits t) {q i a : ℕ} {r list ends lasts nexts counts 
                 other (at_left_out e) = at_end (ends-other t p a (λ z. n (sym z ∙ o.own)) (get_or counts p 0) e)
                 other (at_event e h need none j) = at_event e h need none j
 
-    none : Released q events waiting events waiting 0
-    none = released-none
+    none : Freed q events waiting events waiting 0
+    none = freed-none
 
     -- ---- a plain one
 
@@ -135,11 +135,11 @@ module _ {t : Trace} (f : Fits t) {q i a : ℕ} {r list ends lasts nexts counts 
                 let z = g (s.needed (event v) ∙ rw (e, eq-eqb (event v) (event v) refl)) in
                 absurd (zero_one cc)
 
-        released : Released q events waiting (with_post events (event v)) (set waiting (event v) 0)
+        released : Freed q events waiting (with_post events (event v)) (set waiting (event v) 0)
             (get_or waiting (event v) 0)
         released =
             rw (or_zero_l (get_or waiting (event v) 0))
-            at (released-step none {e = event v} (omega arith) x.run.shows.words)
+            at (freed-step none {e = event v} (omega arith) x.run.shows.words)
 
         -- who is ready or waits then waited before
         was : (p : ℕ) → Awake (set waiting (event v) 0) (get_or waiting (event v) 0) p → Awake waiting 0 p

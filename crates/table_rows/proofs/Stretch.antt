@@ -39,6 +39,26 @@ along-own {q = q} counts v s =
 abbrev none : List ℕ
 none = replicate 16 0
 
+-- of the counts, room is a matter of their length alone
+pub room-counts : {p q i j : ℕ} {order starts : List ℕ} {counts counts' table : List ℕ} → length counts ≡ 16
+    → RoomAlong p q i j order starts counts' table → RoomAlong p q i j order starts counts table
+room-counts {counts = counts} long r =
+    record {
+      up = r.up;
+      own = r.own;
+      known = r.known;
+      counters = long;
+      places = r.places;
+      each = λ m h l.
+          let k = r.each m h l in
+          record {
+            workers = k.workers;
+            few = k.few;
+            counts_hold = omega (arith, long, k.workers);
+            table_holds = k.table_holds;
+          };
+    }
+
 pub none-own : (q : ℕ) → set none q 0 ≡ none
 none-own q = rw (zeros 16 q) at (set-get_or none q 0)
 
@@ -51,21 +71,22 @@ walked-own q {counts' = counts'} w = (get_or counts' q 0, rw (set-get_or counts'
 
 -- ---- one more
 
-module _ {p q i j : ℕ} {order starts counts before : List ℕ} (room : RoomAlong p q i j order starts before)
+module _ {p q i j : ℕ} {order starts counts before : List ℕ} (room : RoomAlong p q i j order starts counts before)
     {m : ℕ} {now : List ℕ} (s : RowsAlong order starts p q i m counts before now) (h : i ≤ m) (l : m < j) where
-  pub along-room : RoomAt p (get_or order (get_or starts q 0 + m) 0) now
+  pub along-room : RoomAt p (get_or order (get_or starts q 0 + m) 0) counts now
   along-room =
       let r = room.each m h l in
       record {
         workers = r.workers;
         few = r.few;
+        counts_hold = r.counts_hold;
         table_holds = omega (arith, r.table_holds, s.same_length);
       }
 
-  pub along-next : {next : List ℕ} → length counts ≡ 16
+  pub along-next : {next : List ℕ}
       → next ≡ row_put p (get_or order (get_or starts q 0 + m) 0) (take p (set counts q m)) now
       → RowsAlong order starts p q i (m + 1) counts before next
-  along-next {next} full e = record { same_length = long ∙ s.same_length; rows = rows }
+  along-next {next} e = record { same_length = long ∙ s.same_length; rows = rows }
     where
       k : ℕ
       k = get_or order (get_or starts q 0 + m) 0
@@ -73,7 +94,7 @@ module _ {p q i j : ℕ} {order starts counts before : List ℕ} (room : RoomAlo
       long : length next ≡ length now
       long =
           rw e (put-length p k (take p (set counts q m)) now
-          (length-take-le p (set counts q m) (omega (arith, along-room.workers, full, length-set counts q m)))
+          (length-take-le p (set counts q m) (omega (arith, along-room.counts_hold, length-set counts q m)))
           along-room.table_holds)
 
       rows : (t : Trace) (n : ℕ) → Places t n order starts → t.workers ≡ p → q < p → RowsOf t q i (m + 1) counts

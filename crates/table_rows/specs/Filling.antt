@@ -15,10 +15,11 @@ pub record Fillable (bytes : List ℕ) (p n : ℕ) (table : List ℕ) : Type 0 w
   pub accepted : AcceptedTrace bytes (trace_of bytes)
   pub room : n * p ≤ length table
 
--- the table has room for the p numbers of row k
-pub record RoomAt (p k : ℕ) (table : List ℕ) : Type 0 where
+-- the counts and the table have room for the p numbers of row k
+pub record RoomAt (p k : ℕ) (counts table : List ℕ) : Type 0 where
   pub workers : p ≤ 16
   pub few : k * p + p ≤ 16384
+  pub counts_hold : p ≤ length counts
   pub table_holds : k * p + p ≤ length table
 
 -- the table with a row written to the p numbers from k × p on
@@ -45,12 +46,13 @@ FillsPart t starts q before now =
 -- ---- a stretch of one worker's rows, which differ in its own count alone
 
 -- there is room for the rows of the operations in worker q's part of the order, those behind i others and fewer than j
-pub record RoomAlong (p q i j : ℕ) (order starts table : List ℕ) : Type 0 where
+pub record RoomAlong (p q i j : ℕ) (order starts counts table : List ℕ) : Type 0 where
   pub up : i ≤ j
   pub own : q < 16
   pub known : q < p
+  pub counters : length counts ≡ 16
   pub places : get_or starts q 0 + j ≤ 1024
-  pub each : (m : ℕ) → i ≤ m → m < j → RoomAt p (get_or order (get_or starts q 0 + m) 0) table
+  pub each : (m : ℕ) → i ≤ m → m < j → RoomAt p (get_or order (get_or starts q 0 + m) 0) counts table
 
 -- these counts, with m operations of worker q, are the row of its operation with m earlier ones, from i up to j
 pub record RowsOf (t : Trace) (q i j : ℕ) (counts : List ℕ) : Type 0 where

@@ -1,6 +1,6 @@
 -- The steps of a worker along which the walk is kept, passed over while they free nobody.
 -- Follows: document 01, "Order table and order". Means: the call's contract does not speak of it.
-use Rattle.std.specs.Prelude.{List, ◌≡◌, ℕ, ◌<◌, ◌≤◌, get_or, set}
+use Rattle.std.specs.Prelude.{List, ◌≡◌, ℕ, ◌<◌, ◌≤◌, length, get_or, set}
 use Rattle.basics.specs.Membership.{up_to}
 use Rattle.runs.specs.Workers.{count}
 use Rattle.trace.specs.Premises.{Fits}
@@ -45,7 +45,7 @@ pub record OwnPassed (t : Trace) (list ends lasts nexts counts : List ℕ) (q i 
       × Going t (operation_at t q to) q r list ends lasts nexts (set counts q to) events waiting freed
 
 -- `OwnPassed`, in whatever trace
-pub record PassesOwn (list : List ℕ) (q own end last : ℕ) (events waiting events' waiting' : List ℕ) (at to freed : ℕ)
+pub record Passes (list : List ℕ) (q own end last : ℕ) (events waiting events' waiting' : List ℕ) (at to freed : ℕ)
     : Type 0 where
   pub inside : at ≤ end
   pub passed : (t : Trace) (ends lasts nexts counts : List ℕ) (i : ℕ) → get_or ends q 0 ≡ end → get_or lasts q 0 ≡ last
@@ -53,9 +53,28 @@ pub record PassesOwn (list : List ℕ) (q own end last : ℕ) (events waiting ev
       → OwnPassed t list ends lasts nexts counts q i at to events' waiting' freed
 
 -- `OwnTo`, in whatever trace
+pub record Passing (list : List ℕ) (q own end last : ℕ) (events waiting events' waiting' : List ℕ)
+    (at : ℕ) : Type 0 where
+  pub inside : at ≤ end
+  pub passing : (t : Trace) (ends lasts nexts counts : List ℕ) (i : ℕ) → get_or ends q 0 ≡ end → get_or lasts q 0 ≡ last
+      → Own t list ends lasts nexts counts q own i events waiting
+      → OwnTo t list ends lasts nexts counts q i at events' waiting'
+
+-- the same two with the lengths of the arrays
+pub record PassesOwn (list : List ℕ) (q own end last : ℕ) (events waiting events' waiting' : List ℕ) (at to freed : ℕ)
+    : Type 0 where
+  pub inside : at ≤ end
+  pub words : length events' ≡ 4
+  pub room : length waiting' ≡ 256
+  pub passed : (t : Trace) (ends lasts nexts counts : List ℕ) (i : ℕ) → get_or ends q 0 ≡ end → get_or lasts q 0 ≡ last
+      → Own t list ends lasts nexts counts q own i events waiting
+      → OwnPassed t list ends lasts nexts counts q i at to events' waiting' freed
+
 pub record PassingOwn (list : List ℕ) (q own end last : ℕ) (events waiting events' waiting' : List ℕ)
     (at : ℕ) : Type 0 where
   pub inside : at ≤ end
+  pub words : length events' ≡ 4
+  pub room : length waiting' ≡ 256
   pub passing : (t : Trace) (ends lasts nexts counts : List ℕ) (i : ℕ) → get_or ends q 0 ≡ end → get_or lasts q 0 ≡ last
       → Own t list ends lasts nexts counts q own i events waiting
       → OwnTo t list ends lasts nexts counts q i at events' waiting'

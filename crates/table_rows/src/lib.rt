@@ -1,12 +1,12 @@
 // Writing the rows of the order table of an accepted file.
 #![tactic(auto)]
 
-ghost use Rattle.std.specs.Prelude.{◌≡◌, ℕ, ◌<◌, ◌≤◌, set, take};
+ghost use Rattle.std.specs.Prelude.{◌≡◌, ℕ, ◌<◌, ◌≤◌, set, take, replicate};
 ghost use Rattle.trace.specs.Reading.{trace_of};
 ghost use Rattle.walk.specs.Going.{Sized, Walked};
 ghost use Rattle.lent.specs.Written.{written_over};
 ghost use Rattle.table_rows.specs.Filling.{RoomAt, RoomAlong, Fillable, row_put, RowsAlong, FillsPart};
-ghost use Rattle.table_rows.specs.Passing.{PassesOwn};
+ghost use Rattle.table_rows.specs.Passing.{Passes};
 ghost use Rattle.table_rows.specs.Rows.{order_table};
 
 use index::{Index, IndexedFile};
@@ -14,7 +14,7 @@ use walk::{Limits, Walk};
 
 // Writes the row of operation k, worker q's with `own` earlier ones, to its part of the table.
 fn put_row(done: &[u16; 16], p: usize, k: usize, q: usize, own: u16, table: &mut [u16])
-    requires { RoomAt p k table.old × (q < p) }
+    requires { RoomAt p k done.now table.old × (q < p) }
     ensures { table.new ≡ row_put p k (take p (set done.now q own)) table.old }
 {
     let first = k * p;
@@ -33,7 +33,8 @@ fn put_rows(
     done: &[u16; 16],
     table: &mut [u16],
 )
-    requires { RoomAlong p q from to index.now.order index.now.starts table.old }
+    // Of the counts, which are 16, `RoomAlong` says the length alone.
+    requires { RoomAlong p q from to index.now.order index.now.starts (replicate 16 0) table.old }
     ensures { RowsAlong index.now.order index.now.starts p q from to
         done.now table.old table.new }
 {
@@ -56,7 +57,7 @@ struct Passed {
 // is at its end, with `last` operations.
 fn pass_own(list: &[u32; 1024], own: usize, end: usize, last: usize, walk: &mut Walk) -> Passed
     requires { (own ≤ «end») × («end» ≤ 1024) }
-    ensures { ((q : ℕ) → PassesOwn list.now q own «end» last walk.old.events walk.old.waiting
+    ensures { ((q : ℕ) → Passes list.now q own «end» last walk.old.events walk.old.waiting
         walk.new.events walk.new.waiting result.at result.to result.freed)
         × (walk.new.nexts ≡ walk.old.nexts)
         × (walk.new.done ≡ walk.old.done) }

@@ -1,11 +1,12 @@
--- The waiters while a worker goes on. In order: nobody is freed; an event is posted, and who waited for it is freed;
--- the worker comes to wait; it is itself among those freed; who has stopped stays so, or is freed.
+-- The waiters while a worker goes on. In order: what holds whatever the arrays' lengths are; nobody is freed; an event
+-- is posted, and who waited for it is freed; the worker comes to wait; it is itself among those freed; who has stopped
+-- stays so, or is freed.
 use mathlib.Core.Bool.{false}
-use mathlib.Core.List.{List}
+use mathlib.Core.List.{List, [], ◌∷◌}
 use mathlib.Core.Logic.{◌⊎◌, inl, inr, ◌≢◌}
 use mathlib.Core.Path.{◌≡◌, refl, sym, ◌∙◌}
 use native.Mathlib.Omega.{arith}
-use Prim.Native.Nat.{ℕ, ◌<◌}
+use Prim.Native.Nat.{ℕ, zero, suc, ◌<◌}
 use lib.Bits.{bit_or}
 use lib.ListN.{length, get_or, set, length-set}
 use lib.Seq.{get_or-set_same, get_or-set_other}
@@ -19,29 +20,36 @@ use Rattle.masks.proofs.Sets.{in-none, in_either, in_left, in_right}
 use Rattle.states.specs.States.{Blocked, no_more, left_out, waits}
 use Rattle.walk.specs.Going.{Released, Entered, Stopped, at_end, at_left_out, at_event}
 
--- ---- nobody is freed
+-- ---- whatever the lengths are
 
-pub released-none : {q : ℕ} {events waiting : List ℕ} → length events ≡ 4 → length waiting ≡ 256
-    → Released q events waiting events waiting 0
-released-none h k =
+-- `Released` without the lengths
+pub record Freed (q : ℕ) (events waiting events' waiting' : List ℕ) (freed : ℕ) : Type 0 where
+  pub keeps : (e p : ℕ) → e < 256 → is_posted events e ≡ false → p is_in get_or waiting e 0
+      → ((is_posted events' e ≡ false) × (p is_in get_or waiting' e 0)) ⊎ (p is_in freed)
+  pub freed_waited : (p : ℕ) → p is_in freed → (p ≡ q) ⊎ ((e : ℕ) × (p is_in get_or waiting e 0))
+  pub waits_waited : (e p : ℕ) → p is_in get_or waiting' e 0 → (p ≡ q) ⊎ (p is_in get_or waiting e 0)
+
+-- nobody is at a place of a list that is cleared
+pub cleared : (l : List ℕ) (i : ℕ) → get_or (set l i 0) i 0 ≡ 0
+cleared [] zero = refl
+cleared [] (suc i) = refl
+cleared (x ∷ l) zero = refl
+cleared (x ∷ l) (suc i) = cleared l i
+
+pub freed-none : {q : ℕ} {events waiting : List ℕ} → Freed q events waiting events waiting 0
+freed-none =
     record {
-      room = k;
-      words = h;
       keeps = λ e p l n i. inl (n, i);
       freed_waited = λ p i. absurd (in-none i);
       waits_waited = λ e p i. inr i;
     }
 
 module _ {q : ℕ} {events waiting events' waiting' : List ℕ} {freed : ℕ}
-    (x : Released q events waiting events' waiting' freed) where
-  -- ---- e is posted, and who waited for it is free
-
-  pub released-step : {e : ℕ} → e < 256
-      → Released q events waiting (with_post events' e) (set waiting' e 0) (bit_or freed (get_or waiting' e 0))
-  released-step {e} l =
+    (x : Freed q events waiting events' waiting' freed) where
+  pub freed-step : {e : ℕ} → e < 256 → length events' ≡ 4
+      → Freed q events waiting (with_post events' e) (set waiting' e 0) (bit_or freed (get_or waiting' e 0))
+  freed-step {e} l words =
       record {
-        room = length-set waiting' e 0 ∙ x.room;
-        words = with_post-length events' e ∙ x.words;
         keeps = λ d p h n i. on d p (x.keeps d p h n i) (equal? d e);
         freed_waited = λ p i. back p (in_either freed (get_or waiting' e 0) i);
         waits_waited = λ d p i. who d p i (equal? d e);
@@ -55,7 +63,7 @@ module _ {q : ℕ} {events waiting events' waiting' : List ℕ} {freed : ℕ}
       on d p (inl (n, i)) (inl z) = inr (in_right freed (get_or waiting' e 0) (rw z at i))
       on d p (inl (n, i)) (inr z) =
           inl (
-            posted-after events' e d x.words l ∙ rw (ne_eqb e d (λ y. z (sym y))) n,
+            posted-after events' e d words l ∙ rw (ne_eqb e d (λ y. z (sym y))) n,
             rw (get_or-set_other waiting' e d 0 0 z) i,
           )
 
@@ -66,8 +74,47 @@ module _ {q : ℕ} {events waiting events' waiting' : List ℕ} {freed : ℕ}
 
       who : (d p : ℕ) → p is_in get_or (set waiting' e 0) d 0 → (d ≡ e) ⊎ (d ≢ e)
           → (p ≡ q) ⊎ (p is_in get_or waiting d 0)
-      who d p i (inl z) = absurd (in-none (rw (z, get_or-set_same waiting' e 0 0 (omega (arith, l, x.room))) at i))
+      who d p i (inl z) = absurd (in-none (rw (z, cleared waiting' e) at i))
       who d p i (inr z) = x.waits_waited d p (rw (get_or-set_other waiting' e d 0 0 z) at i)
+
+  -- who has stopped
+  pub freed-still : {t : Trace} {a p k : ℕ} → Stopped t a events waiting p k
+      → (p is_in freed) ⊎ Stopped t a events' waiting' p k
+  freed-still (at_end e) = inr (at_end e)
+  freed-still (at_left_out e) = inr (at_left_out e)
+  freed-still {p = p} (at_event e l need none i) = elim (x.keeps e p l none i) [
+    | inl j ↦ inr (at_event e l need j.0 j.1)
+    | inr j ↦ inl j
+  ]
+
+  with-lengths : length waiting' ≡ 256 → length events' ≡ 4 → Released q events waiting events' waiting' freed
+  with-lengths h k =
+      record {
+        room = h;
+        words = k;
+        keeps = x.keeps;
+        freed_waited = x.freed_waited;
+        waits_waited = x.waits_waited;
+      }
+
+-- ---- nobody is freed
+
+pub released-none : {q : ℕ} {events waiting : List ℕ} → length events ≡ 4 → length waiting ≡ 256
+    → Released q events waiting events waiting 0
+released-none h k = with-lengths freed-none k h
+
+module _ {q : ℕ} {events waiting events' waiting' : List ℕ} {freed : ℕ}
+    (x : Released q events waiting events' waiting' freed) where
+  any-lengths : Freed q events waiting events' waiting' freed
+  any-lengths = record { keeps = x.keeps; freed_waited = x.freed_waited; waits_waited = x.waits_waited }
+
+  -- ---- e is posted, and who waited for it is free
+
+  pub released-step : {e : ℕ} → e < 256
+      → Released q events waiting (with_post events' e) (set waiting' e 0) (bit_or freed (get_or waiting' e 0))
+  released-step {e} l =
+      with-lengths (freed-step any-lengths l x.words) (length-set waiting' e 0 ∙ x.room)
+      (with_post-length events' e ∙ x.words)
 
   -- ---- q waits for e
 
@@ -121,12 +168,7 @@ module _ {q : ℕ} {events waiting events' waiting' : List ℕ} {freed : ℕ}
 
   pub still : {t : Trace} {a p k : ℕ} → Stopped t a events waiting p k
       → (p is_in freed) ⊎ Stopped t a events' waiting' p k
-  still (at_end e) = inr (at_end e)
-  still (at_left_out e) = inr (at_left_out e)
-  still {p = p} (at_event e l need none i) = elim (x.keeps e p l none i) [
-    | inl j ↦ inr (at_event e l need j.0 j.1)
-    | inr j ↦ inl j
-  ]
+  still = freed-still any-lengths
 
 pub stopped-blocked : {t : Trace} {a : ℕ} {events waiting : List ℕ} {p k : ℕ} → Stopped t a events waiting p k
     → Blocked t a events k

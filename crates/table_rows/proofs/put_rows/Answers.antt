@@ -2,13 +2,14 @@
 use mathlib.Core.Path.{◌≡◌}
 use native.Mathlib.Omega.{arith}
 use borrow.Author.Rules.{rules}
-use Rattle.table_rows.proofs.Stretch.{along-next}
+use Rattle.table_rows.proofs.Stretch.{room-counts, along-next}
 use Rattle.table_rows.proofs.put_rows.Goals as goal
 
 pub loop-m-preserved : goal.loop-m-preserved
 loop-m-preserved c =
     let row = rw (c.from-k.ensures, c.from-first.ensures) at c.put_row.ensures in
-    along-next c.requires c.loop-m.invariant c.loop-m.auto.m c.loop-m-test.true (search rules) row
+    let room = room-counts (search rules) c.requires in
+    along-next room c.loop-m.invariant c.loop-m.auto.m c.loop-m-test.true row
 
 pub returns : goal.returns
 returns c =
