@@ -23,15 +23,16 @@ module _ {t : Trace} {p : ℕ} {starts list ends : List ℕ} {q prior b : ℕ} (
   -- ---- the start
 
   pub written_start : {counts events waiting : List ℕ} → Unstarted counts events waiting → {all : ℕ}
-      → Below p all → {run : List ℕ}
+      → Below p all → {run : List ℕ} → length run ≡ 1024
       → Written t b [] list stops lasts nexts counts events waiting all 0 run
-  written_start none all =
+  written_start none all room =
       record {
         more = [];
         going = going-without x y none all;
         lowest = no_step;
         sized = without-sized y;
         long = refl;
+        room = room;
         front = refl;
       }
 
@@ -49,6 +50,7 @@ module _ {t : Trace} {p : ℕ} {starts list ends : List ℕ} {q prior b : ℕ} (
           lowest = no_step;
           sized = let-in-sized y w.sized i.0;
           long = rw append-nil w.long;
+          room = w.room;
           front = rw append-nil w.front;
         }
 
@@ -74,8 +76,8 @@ module _ {t : Trace} {p : ℕ} {starts list ends : List ℕ} {q prior b : ℕ} (
           holds-back-unique (rule-monotone t) (order-ascending t) (order-preference (workers-known x.fits))
           (rule-in-turn t) b holds
 
-      pub writes-run : length run'' ≡ 1024 → WritesRun t b counts counts'' run''
-      writes-run room =
+      pub writes-run : WritesRun t b counts counts'' run''
+      writes-run =
           record {
             without_b = record { run = w.more; events = events; exhausted = going-exhausted x.fits w.going };
             whole_run = record {
@@ -84,5 +86,5 @@ module _ {t : Trace} {p : ℕ} {starts list ends : List ℕ} {q prior b : ℕ} (
               exhausted = going-exhausted x.fits v.going;
             };
             front = rw (← held_back, v.long) v.front;
-            room = room;
+            room = v.room;
           }

@@ -10,7 +10,7 @@ use lib.Dec.{eqb}
 use lib.ListN.{length, get_or, take, drop, length-append, length-drop}
 use borrow.Rule.Slice.PartMut.{put_mid}
 use Rattle.std.proofs.lemmas.Slice.{put_mid-paste}
-use lib.Seq.{ext_get_or, get_or-take, get_or-drop, length-take-le, paste, take-paste, take_all}
+use lib.Seq.{ext_get_or, get_or-take, get_or-drop, length-take-le, paste, take-paste, length-paste, take_all}
 use Rattle.basics.specs.Membership.{◌⊆◌, up_to}
 use Rattle.runs.specs.Workers.{count, operations_of}
 use Rattle.runs.proofs.Done.{done-append}
@@ -134,10 +134,10 @@ module _ {t : Trace} {n : ℕ} {order starts : List ℕ} (x : Places t n order s
   pub turn-room : at + (get_or counts' q 0 - get_or counts q 0) ≤ 1024
   turn-room = omega (arith, long, run_length after.0.run.is_a_run, x.count, few)
 
-  pub written-turn : length run ≡ 1024 → Written t a base list ends lasts nexts' counts' events' waiting' ready'
+  pub written-turn : Written t a base list ends lasts nexts' counts' events' waiting' ready'
       (at + (get_or counts' q 0 - get_or counts q 0))
       (paste run at (drop (get_or starts q 0 + get_or counts q 0) order) (get_or counts' q 0 - get_or counts q 0))
-  written-turn room =
+  written-turn =
       record {
         more = w.more ++ stretch t q i j;
         going = rw together after.0;
@@ -145,7 +145,8 @@ module _ {t : Trace} {n : ℕ} {order starts : List ℕ} (x : Places t n order s
             (u.lowest refl t a 16 (base ++ w.more) w.going));
         sized = u.sized;
         long = rw together long;
-        front = rw together (take-paste run at part m (omega (arith, turn-room, room)) inside ∙ rw
+        room = length-paste run at part m (omega (arith, turn-room, w.room)) inside ∙ w.room;
+        front = rw together (take-paste run at part m (omega (arith, turn-room, w.room)) inside ∙ rw
             (w.front, is-stretch));
       }
     where
@@ -175,10 +176,10 @@ module _ {order starts list ends lasts nexts counts events waiting : List ℕ} {
   pub writing-room : at + (get_or counts' q 0 - get_or counts q 0) ≤ 1024
   writing-room = turn-room w.places w.few w.written first u
 
-  pub writing-turn : length run ≡ 1024 → Writing order starts list ends lasts nexts' counts' events' waiting' ready'
+  pub writing-turn : Writing order starts list ends lasts nexts' counts' events' waiting' ready'
       (at + (get_or counts' q 0 - get_or counts q 0))
       (paste run at (drop (get_or starts q 0 + get_or counts q 0) order) (get_or counts' q 0 - get_or counts q 0))
-  writing-turn room =
+  writing-turn =
       record {
         trace = w.trace;
         count = w.count;
@@ -186,7 +187,7 @@ module _ {order starts list ends lasts nexts counts events waiting : List ℕ} {
         places = w.places;
         out = w.out;
         base = w.base;
-        written = written-turn w.places w.few w.written first u room;
+        written = written-turn w.places w.few w.written first u;
       }
 
 -- ---- what is copied

@@ -21,6 +21,7 @@ pub record Written (t : Trace) (a : ℕ) (base list ends lasts nexts counts even
   pub lowest : LowestSteps (worker_of t) (without (rule t) a) (done [] base) more
   pub sized : Sized ends nexts
   pub long : length (base ++ more) ≡ at
+  pub room : length run ≡ 1024
   pub front : take at run ≡ base ++ more
 
 -- for some trace of at most 1,024 operations, whose index this is

@@ -1,6 +1,4 @@
 -- `write_run` meets its contract. Assumes nothing.
-use mathlib.Core.Path.{◌≡◌}
-use lib.ListN.{length}
 use borrow.Author.Rules.{rules}
 use Rattle.trace.specs.Trace.{size}
 use Rattle.run_writer.proofs.Runs.{written_start, written-let-in, writes-run}
@@ -17,14 +15,14 @@ write_walk-at-requires c =
       places = x.places;
       out = x.out;
       base = _;
-      written = written_start x.left_out y none c.below-all.ensures;
+      written = written_start x.left_out y none c.below-all.ensures (search rules);
     }
 
 pub write_walk-requires : goal.write_walk-requires
 write_walk-requires c =
     let (few, low, x) = c.requires in
     let (y, none) = c.begin_without.ensures in
-    let start = written_start x.left_out y none c.below-all.ensures in
+    let start = written_start x.left_out y none c.below-all.ensures (search rules) in
     let w = c.write_walk-at.ensures x.trace x.count x.out _ x.few x.places start in
     record {
       trace = x.trace;
@@ -41,7 +39,6 @@ returns c =
     λ t n b small places left.
     let (few, low, x) = c.requires in
     let (y, none) = c.begin_without.ensures in
-    let w = c.write_walk-at.ensures t n b _ small places (written_start left y none c.below-all.ensures) in
+    let w = c.write_walk-at.ensures t n b _ small places (written_start left y none c.below-all.ensures (search rules)) in
     let own = written-let-in left y w c.let_in.ensures c.with-own.ensures in
-    let room : length c.write_walk.new.run ≡ 1024 = search rules in
-    writes-run left y w (c.write_walk.ensures t n (size t) w.more small places own) room
+    writes-run left y w (c.write_walk.ensures t n (size t) w.more small places own)

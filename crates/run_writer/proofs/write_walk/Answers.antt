@@ -1,9 +1,6 @@
 -- `write_walk` meets its contract. The invariant: what the walk has added is written. Assumes nothing.
 use native.Mathlib.Omega.{arith}
-use mathlib.Core.Path.{◌≡◌}
 use Prim.Native.Nat.{◌+◌, ◌-◌}
-use lib.ListN.{length}
-use borrow.Author.Rules.{rules}
 use Rattle.run_writer.proofs.Turns.{written-turn, writing-on, writing-inside, writing-room, writing-turn, copied}
 use Rattle.run_writer.proofs.write_walk.Goals as goal
 
@@ -25,8 +22,7 @@ offset_bounds-run-at c =
 pub slice_bounds-copy_from_slice-end : goal.slice_bounds-copy_from_slice-end
 slice_bounds-copy_from_slice-end c =
     let room = writing-room c.loop-ready.invariant.0 c.lowest-q.ensures c.turn-ready.ensures in
-    let long : length c.loop-ready.run ≡ 1024 = search rules in
-    omega (arith, room, long, c.from.ensures, c.from-before.ensures)
+    omega (arith, room, c.loop-ready.invariant.0.written.room, c.from.ensures, c.from-before.ensures)
 
 pub slice_bounds-copy_from_slice-end-in-loop-ready : goal.slice_bounds-copy_from_slice-end-in-loop-ready
 slice_bounds-copy_from_slice-end-in-loop-ready c =
@@ -43,14 +39,13 @@ loop-ready-preserved c =
     let before = c.from-before.ensures in
     let after = c.from.ensures in
     let on' = writing-on w first u in
-    let long : length c.loop-ready.run ≡ 1024 = search rules in
     let before' = c.from-before.result in
     let more = c.from.result - before' in
     let from = c.from-in-loop-ready.result + before' in
     let same = copied c.args.index.now.order c.loop-ready.run from c.loop-ready.at more
     (omega (arith, writing-inside w first u, on', start, before, after)) c.copy_from_slice.ensures.after in
     rw (same, start, before, after)
-    (writing-turn w first u long, λ t n a base few x y. written-turn x few (on t n a base few x y) first u long)
+    (writing-turn w first u, λ t n a base few x y. written-turn x few (on t n a base few x y) first u)
 
 pub returns : goal.returns
 returns c = λ t n a base few x w. rw (← c.loop-ready-test.false) (c.loop-ready.invariant.1 t n a base few x w)
