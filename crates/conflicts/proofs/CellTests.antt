@@ -1,5 +1,5 @@
--- The test by the arrays is `in_conflict`. In order: bits; places in the arrays; the cells of an operation; two operations
--- in conflict, by their cells; by what the arrays hold of them.
+-- The test by the arrays is `in_conflict`. In order: bits; places in the arrays; the cells of an operation; two
+-- operations in conflict, by their cells; by what the arrays hold of them.
 use mathlib.Core.Bool.{Bool, true, false, ◌&&◌, ◌||◌, and_comm, and-false, true≢false}
 use mathlib.Core.List.{List}
 use mathlib.Core.Logic.{inl, inr, ◌≢◌}

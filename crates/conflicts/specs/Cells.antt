@@ -76,7 +76,8 @@ met_at cells first last p = meet first last (get_or cells.first p 0) (get_or cel
 
 -- four words tell which operations of a block meet these cells
 pub record BlockMet (cells : Cells) (first last block : ℕ) (words : List ℕ) : Type 0 where
-  pub met : (i : ℕ) → i < 128 → is_in (get_or words (i / 32) 0) (i % 32) ≡ met_at cells first last (place (128 * block + i))
+  pub met : (i : ℕ) → i < 128
+      → is_in (get_or words (i / 32) 0) (i % 32) ≡ met_at cells first last (place (128 * block + i))
 
 -- ---- the operations in conflict with one
 

@@ -30,7 +30,8 @@ module _ {k₀ k₁ k₂ k₃ x y z : ℕ} (f : Joined k₀ k₁ x) (g : Joined 
 
 pub block-empty : (kept : Unordered) (w block : ℕ) {x y z : ℕ} → Joined (get_or kept.sets (32 * w + 4 * block) 0)
     (get_or kept.sets (32 * w + 4 * block + 1) 0) x
-    → Joined (get_or kept.sets (32 * w + 4 * block + 2) 0) (get_or kept.sets (32 * w + 4 * block + 3) 0) y → Joined x y z → z ≡ 0
+    → Joined (get_or kept.sets (32 * w + 4 * block + 2) 0) (get_or kept.sets (32 * w + 4 * block + 3) 0) y
+    → Joined x y z → z ≡ 0
     → BlockEmpty kept w block
 unfolding held
 block-empty kept w block f g h e b i = go (b / 32 % 4) refl

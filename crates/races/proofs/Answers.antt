@@ -247,7 +247,10 @@ module _ (bytes : List ℕ) (numbers room : ℕ) where
   races-listed {t} h count =
       Iff.trans
       (outcome-passes answer_of (λ q k z. zero_one cc) (races-comes-out bytes numbers room)
-      (λ u p. accepted-same p.filled.accepted h)) (λ p. (p.0, sym (ap (λ (x : Races). x.races) (same-result p.1))), λ p. (p.0, rw p.1))
+      (λ u p. accepted-same p.filled.accepted h)) (
+        λ p. (p.0, sym (ap (λ (x : Races). x.races) (same-result p.1))),
+        λ p. (p.0, rw p.1),
+      )
 
   -- where the table is long enough: the list is too short, and the place is the number of races
   pub races-short : {t : Trace} → AcceptedTable bytes numbers t → (k : ℕ)

@@ -76,9 +76,10 @@ shorter x y = cond (leb x y) x y
 
 -- the asking and the filling, for any bytes, any table and any room: the answer, and what is in the table afterwards;
 -- "Refused calls write nothing, except that 16 leaves the table filled"
-pub record CountCall (bytes table : List ℕ) (room : ℕ) (answer : Result Races Refusal) (table-now : List ℕ) : Type 0 where
-  pub answers : answer ≡ races_answer bytes (length table) room
-  pub leaves_table : table-now ≡ table_after bytes table
+pub record CountCall (bytes table : List ℕ) (room : ℕ) (answer : Result Races Refusal) (table-now : List ℕ) : Type 0
+  where
+    pub answers : answer ≡ races_answer bytes (length table) room
+    pub leaves_table : table-now ≡ table_after bytes table
 
 -- what the call leaves in the list of lower operations, and in that of higher ones; "everything past the last element
 -- written is as before"

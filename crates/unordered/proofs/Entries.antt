@@ -72,19 +72,23 @@ module _ {bytes table : List ℕ} {n a w : ℕ} (l : Place bytes table n a w) wh
           differ = λ e. d (sym l.turn.worker ∙ ap (worker_of (trace_of bytes)) e ∙ o.worker);
         }
 
-    pub after-certain : get_or table (a * (trace_of bytes).workers + q) 0 ≤ get_or table (k * (trace_of bytes).workers + q) 0
+    pub after-certain :
+        get_or table (a * (trace_of bytes).workers + q) 0 ≤ get_or table (k * (trace_of bytes).workers + q) 0
         → must_precede_in (trace_of bytes) a k ≡ true
     after-certain = entries-certain pair (sym o.worker)
 
-    pub after-uncertain : get_or table (k * (trace_of bytes).workers + q) 0 < get_or table (a * (trace_of bytes).workers + q) 0
+    pub after-uncertain :
+        get_or table (k * (trace_of bytes).workers + q) 0 < get_or table (a * (trace_of bytes).workers + q) 0
         → must_precede_in (trace_of bytes) a k ≡ false
     after-uncertain = entries-uncertain pair (sym o.worker)
 
-    pub before-certain : get_or table (k * (trace_of bytes).workers + w) 0 ≤ get_or table (a * (trace_of bytes).workers + w) 0
+    pub before-certain :
+        get_or table (k * (trace_of bytes).workers + w) 0 ≤ get_or table (a * (trace_of bytes).workers + w) 0
         → must_precede_in (trace_of bytes) k a ≡ true
     before-certain = entries-certain (pair-back pair) (sym l.turn.worker)
 
-    pub before-uncertain : get_or table (a * (trace_of bytes).workers + w) 0 < get_or table (k * (trace_of bytes).workers + w) 0
+    pub before-uncertain :
+        get_or table (a * (trace_of bytes).workers + w) 0 < get_or table (k * (trace_of bytes).workers + w) 0
         → must_precede_in (trace_of bytes) k a ≡ false
     before-uncertain = entries-uncertain (pair-back pair) (sym l.turn.worker)
 

@@ -49,7 +49,8 @@ module _ {bytes table : List ℕ} {n a w : ℕ} (l : Place bytes table n a w) {q
       in-few m b = omega (arith, (in-here m b).0.below, (place-given l).few)
 
       -- the next one is behind it
-      pub in-ahead : {bound after : ℕ} → bound < 65536 → due < bound → after ≡ get_or kept.next h 0 → (h < after) × (h < 1024)
+      pub in-ahead : {bound after : ℕ} → bound < 65536 → due < bound → after ≡ get_or kept.next h 0
+          → (h < after) × (h < 1024)
       in-ahead m b f = (omega (arith, (place-next s.turn.state (in-here m b).0).ahead, f), in-few m b)
 
       pub in-more : {bound after due' : ℕ} {kept' : Unordered} → Sized kept → bound < 65536
@@ -66,7 +67,8 @@ module _ {bytes table : List ℕ} {n a w : ℕ} (l : Place bytes table n a w) {q
           (record {
             turn = take-one g l.turn few s.turn o sized s.end un (place-next s.turn.state o) x.holds;
             end =
-                f ∙ sym (get_or-set_same kept.high (16 * w + q) (get_or kept.next h 0) 0 (omega (arith, two, sized.high)));
+                f
+                ∙ sym (get_or-set_same kept.high (16 * w + q) (get_or kept.next h 0) 0 (omega (arith, two, sized.high)));
             rank = r;
             ranks = ranks-moved g.most (take-moved g l.turn few s.turn o x.word (get_or kept.next h 0)) s.ranks;
           })
@@ -162,7 +164,8 @@ module _ {bytes table : List ℕ} {n a w : ℕ} (l : Place bytes table n a w) {q
           turn = let-one g l.turn few s.turn o sized s.end at c (place-next s.turn.state o) x.holds;
           ahead = s.ahead;
           high_end = s.high_end;
-          end = f ∙ sym (get_or-set_same kept.low (16 * w + q) (get_or kept.next k 0) 0 (omega (arith, two, sized.low)));
+          end =
+              f ∙ sym (get_or-set_same kept.low (16 * w + q) (get_or kept.next k 0) 0 (omega (arith, two, sized.low)));
           rank = r;
           ranks = ranks-moved g.most (let-moved g l.turn few s.turn o x.word (get_or kept.next k 0)) s.ranks;
         })

@@ -15,7 +15,8 @@ use Rattle.unordered.specs.Kept.{EndAt, NextAt, HoldsNext}
 pub none-at : {t : Trace} (q : ℕ) → size t ≤ 1024 → EndAt t q 1024
 none-at q few = record { own = λ l. absurd (omega arith); end = λ l. refl }
 
-pub read-start : {t : Trace} {next firsts : List ℕ} → size t ≤ 1024 → length firsts ≡ 16 → ((q : ℕ) → q < 16 → get_or firsts q 0 ≡ 1024)
+pub read-start : {t : Trace} {next firsts : List ℕ} → size t ≤ 1024 → length firsts ≡ 16
+    → ((q : ℕ) → q < 16 → get_or firsts q 0 ≡ 1024)
     → ReadFrom t (size t) next firsts
 read-start few long none =
     record {

@@ -18,7 +18,8 @@ use Rattle.unordered.proofs.Turns.{Moved}
 
 -- ---- the others, where one pair of ends moved
 
-pub ranks-but : {t : Trace} {table : List ℕ} {kept : Unordered} (w q : ℕ) → AllRanks t table kept → OtherRanks t table w q kept
+pub ranks-but : {t : Trace} {table : List ℕ} {kept : Unordered} (w q : ℕ) → AllRanks t table kept
+    → OtherRanks t table w q kept
 ranks-but w q s = record { each = λ v r i j d. s.each v r i j }
 
 pub ranks-moved : {t : Trace} {table : List ℕ} {w q : ℕ} {kept kept' : Unordered} → t.workers ≤ 16

@@ -52,8 +52,8 @@ fn first_ends(firsts: &[u32; 16]) -> [u32; 256]
     ends
 }
 
-// For each operation the next one of its worker, and the 32 words of each worker's set; for the pair of workers w and q,
-// at 16 * w + q, the high and the low end of q's operations in w's set, and the ranks of both.
+// For each operation the next one of its worker, and the 32 words of each worker's set; for the pair of workers w and
+// q, at 16 * w + q, the high and the low end of q's operations in w's set, and the ranks of both.
 #[derive(Drop)]
 pub struct Unordered {
     next: [u32; 1024],

@@ -14,7 +14,8 @@ overflow_sub-count c = paired-seen _ c.loop-k.invariant _ c.worker-q.ensures.1
 
 pub overflow_add-seen : goal.overflow_add-seen
 overflow_add-seen c =
-    omega (arith, paired-seen _ c.loop-k.invariant _ c.worker-q.ensures.1, c.args.trace.now.holds.few, c.loop-k-test.true)
+    let seen = paired-seen _ c.loop-k.invariant _ c.worker-q.ensures.1 in
+    omega (arith, seen, c.args.trace.now.holds.few, c.loop-k-test.true)
 
 pub loop-k-preserved : goal.loop-k-preserved
 loop-k-preserved c =

@@ -12,7 +12,8 @@ pub fill-requires : goal.fill-requires
 fill-requires c =
     let h = c.args.filled.now.trace.holds in
     let (inv, same, next) = c.loop-a.invariant in
-    let room = rows-room inv (omega (arith, h.count, c.loop-a-test.true)) (rw (same, next) at c.list_row-count.ensures.0) in
+    let listed = rw (same, next) at c.list_row-count.ensures.0 in
+    let room = rows-room inv (omega (arith, h.count, c.loop-a-test.true)) listed in
     omega (arith, room, c.requires.1, inv.low.size)
 
 pub copy-requires : goal.copy-requires

@@ -6,6 +6,7 @@ use Rattle.unordered.proofs.Unordered.any_moves.Goals as goal
 
 pub loop-q-preserved : goal.loop-q-preserved
 loop-q-preserved c =
-    ask-more c.loop-q.invariant (omega (arith, c.loop-q-test.true, c.args.filled.now.trace.holds.workers, c.from-q-end.ensures))
+    let h = c.args.filled.now.trace.holds in
+    ask-more c.loop-q.invariant (omega (arith, c.loop-q-test.true, h.workers, c.from-q-end.ensures))
     c.entry-entry.ensures.0 c.kept_due-due.ensures c.entry-own.ensures.0 c.kept_gone-gone.ensures
     c.moves_bit-any.ensures
