@@ -12,7 +12,8 @@ ghost use Rattle.accept.specs.Acceptance.{accept_answer};
 use index::{Index, IndexedFile};
 use trace::{Counts, Refusal, TraceFile};
 
-// Question 10, from the done counts at the end of the walk that leaves out nothing.
+// Question 10, from the done counts at the end of the walk that leaves out nothing. Of the index just the operations by
+// worker are asked, which is less than an `IndexedFile`.
 pub fn accept_if_done(
     trace: &TraceFile<'_>,
     index: &Index,

@@ -5,15 +5,15 @@ ghost use Rattle.std.specs.Prelude.{◌≡◌, true, ◌+◌, ◌<◌, ◌≤◌
 ghost use Rattle.beginning.specs.Computed.{first_index, beginning_length, prefix_of, BeginningCall};
 ghost use Rattle.beginning.specs.Searched.{Searched};
 
-// The first numbers of one of the two lists: which list, and how many.
+// The first numbers of one of the two lists: which list, and how many. No Option: neither list is the missing one.
 #[derive(Clone, Copy)]
 pub enum Prefix {
     OfFirst { length: usize },
     OfSecond { length: usize },
 }
 
-// True only where none of the eight numbers from `at` on is x or y. Their low 16 bits are compared, without a branch; a
-// false answer says nothing.
+// True only where none of the eight numbers from `at` on is x or y. Their low 16 bits are compared, without a branch, so
+// no `try_from`; a false answer says nothing.
 fn eight_free(list: &[u16], at: usize, x: u32, y: u32) -> bool
     requires { Searched list.now x y at × (at + 8 ≤ length list.now) }
     ensures { result ≡ true → Searched list.now x y (at + 8) }

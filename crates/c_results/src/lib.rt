@@ -1,7 +1,8 @@
 // The structs of the C interface, and which one each answer becomes.
 //
 // In each struct but `BeginningResult`, which has no refusal, stand the refusal's number and place, both 0 where the
-// call does not refuse; then the call's values, all 0 where it does.
+// call does not refuse; then the call's values, all 0 where it does: numbers, since C has no Result, and a struct for
+// each call, since C has no generics.
 #![tactic(auto)]
 
 pub mod accept_result;

@@ -1,5 +1,7 @@
 // Where a walk starts, with nothing left out or without an operation, and what its end tells. For the crates above,
-// which have read the file and made its index before.
+// which have read the file and made its index before. The functions take any index, and say in a clause what they need
+// of it: an `IndexedFile` would ask more. The walks differ in what they do at each turn: one function over a closure
+// would have its contract carry what is written.
 #![tactic(auto)]
 
 ghost use Rattle.std.specs.Prelude.{List, ◌≡◌, ℕ, ◌+◌, ◌-◌, ◌<◌, ◌≤◌, get_or, set};

@@ -13,8 +13,9 @@ fn slot_of(first: u32, last: u32) -> usize
     ((first % 32 * 5 + last % 32) % 32) as usize
 }
 
-// Notes in 32 slots: 32 words of operations for each slot; then, for each slot, the first of its cells, the last of
-// them, and which of the eight blocks of operations are noted.
+// Notes in 32 slots: 32 words of operations for each slot, in one flat array, which a row looks through four words at a
+// time; then, for each slot, the first of its cells, the last of them, and which of the eight blocks of operations are
+// noted.
 #[derive(Drop)]
 pub struct Meetings {
     met: [u32; 1024],

@@ -48,7 +48,8 @@ pub fn refuse(x: &IndexedFile<'_>, a: u32, b: u32) -> Refusal
     }
 }
 
-// Must a precede b? From the done counts at the end of the walk without a: b's worker has not got past b.
+// Must a precede b? From the done counts at the end of the walk without a: b's worker has not got past b. Here and in
+// `count_prior` of the index just the operations by worker are asked, which is less than an `IndexedFile`.
 pub fn must_precede(
     trace: &TraceFile<'_>,
     index: &Index,
@@ -102,7 +103,7 @@ fn order_between(x: &IndexedFile<'_>, a: usize, b: usize) -> Result<i8, Refusal>
 }
 
 // Asks the file's questions, 12 and 13, of any bytes and any two numbers; where none refuses, the order of the two
-// operations: −1, 0 or +1.
+// operations: −1, 0 or +1, a number, since the C interface and `swapped-order`, which negates it, have it so.
 pub fn pair_order(file: &[u8], a: u32, b: u32) -> Result<i8, Refusal>
     ensures { result ≡ order_answer file.now a b }
 {

@@ -1,5 +1,6 @@
 // Operations by the index: a worker's next one, the lowest that is left, how many come before one. For the crates
-// above, which have read the file and made its index before.
+// above, which have read the file and made its index before. They take any index, and say in a clause what they need of
+// it: an `IndexedFile` would ask more.
 #![tactic(auto)]
 
 ghost use Rattle.std.specs.Prelude.{◌≡◌, ℕ, ◌+◌, ◌<◌, ◌≤◌, get_or};
@@ -10,7 +11,7 @@ ghost use Rattle.states.specs.States.{next_of, lowest_left};
 
 use index::Index;
 
-// Worker q's next operation, of n operations; n where it has none left.
+// Worker q's next operation, of n operations; n where it has none left, as in `next_of`: callers ask which is lower.
 pub fn next_operation(index: &Index, n: usize, done: &[u16; 16], q: usize) -> usize
     requires { (q < 16) × (get_or index.now.starts (q + 1) 0 ≤ 1024) }
     ensures { (t : Trace) → Places t n index.now.order index.now.starts → q < t.workers
@@ -24,7 +25,7 @@ pub fn next_operation(index: &Index, n: usize, done: &[u16; 16], q: usize) -> us
     }
 }
 
-// The lowest of the p workers' next operations; n where none has one left.
+// The lowest of the p workers' next operations; n where none has one left, as in `lowest_left`.
 pub fn lowest_left(index: &Index, p: usize, n: usize, done: &[u16; 16]) -> usize
     requires { (p ≤ 16) × ((q : ℕ) → q < 16 → get_or index.now.starts (q + 1) 0 ≤ 1024) }
     ensures { (t : Trace) → Places t n index.now.order index.now.starts → p ≡ t.workers

@@ -16,7 +16,7 @@ use table_entries::FilledTable;
 use trace::TraceFile;
 
 // Reads the trace from its end: the next operation of each operation's worker, and the first of each worker; 1024 where
-// there is none.
+// there is none, as in `HoldsNext`: what is asked is which operation is lower.
 fn read_next(trace: &TraceFile<'_>, next: &mut [u32; 1024]) -> [u32; 16]
     ensures { HoldsNext (trace_of trace.now.bytes.now) next.new
         × ReadFrom (trace_of trace.now.bytes.now) 0 next.new result }
@@ -54,6 +54,7 @@ fn first_ends(firsts: &[u32; 16]) -> [u32; 256]
 
 // For each operation the next one of its worker, and the 32 words of each worker's set; for the pair of workers w and
 // q, at 16 * w + q, the high and the low end of q's operations in w's set, and the ranks of both.
+// Flat arrays of fixed size, in the order in which the search goes through them: four words at a time.
 #[derive(Drop)]
 pub struct Unordered {
     next: [u32; 1024],

@@ -129,7 +129,7 @@ impl Walk {
     }
 
     // Worker q, the lowest of those ready, goes on; where the walk is orderly, until it frees a lower one. Answers who
-    // is ready then.
+    // is ready then. `orderly` chooses no step: it says which workers go first (`Turned`).
     pub fn turn(
         &mut self,
         list: &[u32; 1024],
