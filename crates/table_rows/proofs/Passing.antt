@@ -54,9 +54,13 @@ module _ {list : List ℕ} {q own end last : ℕ} {events waiting events' waitin
 
 pub passing-start : {list : List ℕ} {q own end last : ℕ} {events waiting : List ℕ} → own ≤ end → length events ≡ 4
     → length waiting ≡ 256 → PassingOwn list q own end last events waiting events waiting own
-passing-start {list = list} {q = q} {own = own} {end = end} {last = last} {events = events} {waiting = waiting} h k room =
-    let start : Passing list q own end last events waiting events waiting own = pass-start h in
-    record { inside = h; words = k; room = room; passing = start.passing }
+passing-start h k room =
+    record {
+      inside = h;
+      words = k;
+      room = room;
+      passing = λ t ends lasts nexts counts i e l x. own-start x;
+    }
 
 module _ {list : List ℕ} {q own end last : ℕ} {events waiting events' waiting' : List ℕ} {at : ℕ}
     (y : PassingOwn list q own end last events waiting events' waiting' at) where

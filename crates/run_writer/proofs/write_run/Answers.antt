@@ -39,6 +39,7 @@ returns c =
     λ t n b small places left.
     let (few, low, x) = c.requires in
     let (y, none) = c.begin_without.ensures in
-    let w = c.write_walk-at.ensures t n b _ small places (written_start left y none c.below-all.ensures (search rules)) in
+    let start = written_start left y none c.below-all.ensures (search rules) in
+    let w = c.write_walk-at.ensures t n b _ small places start in
     let own = written-let-in left y w c.let_in.ensures c.with-own.ensures in
     writes-run left y w (c.write_walk.ensures t n (size t) w.more small places own)
