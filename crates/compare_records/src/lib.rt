@@ -2,28 +2,25 @@
 #![tactic(auto)]
 
 use outcomes::{Answer, Kind, Seen};
-use races::RacesAnswer;
+use races::Races;
 use test_memory::TwoLists;
+use trace::Refusal;
 
 // The largest table, with some numbers more.
 pub const TABLE: usize = 16390;
 
 // The two calls, as numbers
 
-fn numbers_of(answer: RacesAnswer) -> Answer {
+fn numbers_of(answer: Result<Races, Refusal>) -> Answer {
     match answer {
-        RacesAnswer::Listed {
-            workers,
-            operations,
-            races,
-        } => Answer {
+        Ok(found) => Answer {
             number: 0,
             place: 0,
-            values: [workers as u32, operations, races, 0],
+            values: [u32::from(found.workers), found.operations, found.races, 0],
         },
-        RacesAnswer::Refused { number, place } => Answer {
-            number,
-            place,
+        Err(refusal) => Answer {
+            number: refusal.number,
+            place: refusal.place,
             values: [0; 4],
         },
     }

@@ -3,7 +3,8 @@
 #![tactic(auto)]
 
 use race_model::Race;
-use races::RacesAnswer;
+use races::Races;
+use trace::Refusal;
 
 // Records of zeros, more than any trace has races.
 fn no_races() -> [Race; 524288] {
@@ -38,7 +39,7 @@ pub fn list_races(
     room: usize,
     lower: &mut [u16],
     higher: &mut [u16],
-) -> RacesAnswer {
+) -> Result<Races, Refusal> {
     let mut list = no_races();
     copy_in(&mut list, lower, higher);
     let answer = race_list::race_list(file, table, &mut list[..room.min(524288)]);
