@@ -44,7 +44,8 @@ fn skip(list: &[u16], from: usize, x: u32, y: u32) -> usize
     at
 }
 
-// The index of the first appearance of x, which is not before `from`, or the list's length where it does not appear.
+// The index of the first appearance of x, which is not before `from`, or the list's length where it does not appear: as
+// in the definition, since callers ask which of two comes first.
 fn first_index(list: &[u16], from: usize, x: u32) -> usize
     requires { from ≤ first_index list.now x }
     ensures { result ≡ first_index list.now x }

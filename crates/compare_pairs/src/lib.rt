@@ -129,7 +129,7 @@ impl<'a> Pair<'a> {
     }
 }
 
-// A size that just fits n numbers, that is larger, or that is too small.
+// A size that just fits n numbers, that is larger, or that is too small; `large_pairs` takes others, by another rule.
 fn room(n: usize, way: usize) -> usize {
     match way % 3 {
         0 => n,

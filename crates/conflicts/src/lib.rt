@@ -60,7 +60,8 @@ fn meets(first: u32, last: u32, other_first: u32, other_last: u32) -> u32
     u32::from(first <= other_last) & u32::from(other_first <= last)
 }
 
-// The first and the last cell of each operation, and a bit for each Write.
+// The first and the last cell of each operation, and a bit for each Write. Flat arrays, of which four words are tested
+// side by side; an operation without cells has a row that meets none, and no Option, so that the test is one.
 #[derive(Drop)]
 pub struct Cells {
     pub first: [u32; 1024],

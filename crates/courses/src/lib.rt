@@ -39,7 +39,8 @@ pub fn begin(index: &Index) -> (Limits, Walk)
     (limits, walk)
 }
 
-// The first entry of a list, from `from` on, that does not stand before the operation with `prior` earlier ones.
+// The first entry of a list, from `from` on, that does not stand before the operation with `prior` earlier ones; `end`
+// where there is none, as in `Entry`. With `position` on a part of the list, `from` would be added again: no plainer.
 fn entry_from(list: &[u32; 1024], from: usize, end: usize, prior: u32) -> usize
     requires { (from ≤ «end») × («end» ≤ 1024) }
     ensures { Entry list.now from «end» prior result }

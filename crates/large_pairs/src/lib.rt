@@ -36,7 +36,7 @@ fn run_holds(file: &[u8], a: usize, b: usize, buffer: &[u16]) -> bool {
     }
 }
 
-// A size that just fits n numbers, that is larger, or now and then too small.
+// A size that just fits n numbers, that is larger, or now and then too small; `compare_pairs` takes others.
 fn room(n: usize, way: usize) -> usize {
     match way % 5 {
         4 => n.saturating_sub(1),

@@ -12,7 +12,7 @@ pub fn fill(list: &mut [u16], at: usize, count: usize, x: u16)
     list[at..at + count].fill(x);
 }
 
-// Writes the first `count` numbers of a row, from a place of a list on.
+// Writes the first `count` numbers of a row, from a place of a list on: a row is filled up to a count, with no heap.
 pub fn copy(list: &mut [u16], at: usize, count: usize, row: &[u16; 1024])
     requires { (at + count ≤ length list.old) × (count ≤ 1024) }
     ensures { list.new ≡ paste list.old at row.now count }

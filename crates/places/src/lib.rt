@@ -41,7 +41,8 @@ pub fn lowest_left(index: &Index, p: usize, n: usize, done: &[u16; 16]) -> usize
     least
 }
 
-// How many of worker q's operations come before operation k, which is one of them.
+// How many of worker q's operations come before operation k, which is one of them. `position` would answer an Option
+// that always has a number: no plainer.
 pub fn count_prior(index: &Index, q: usize, k: usize) -> u16
     requires { (q < 16) × (get_or index.now.starts (q + 1) 0 ≤ 1024) }
     ensures { (t : Trace) (n : ℕ) → Places t n index.now.order index.now.starts → k < n

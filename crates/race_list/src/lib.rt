@@ -14,7 +14,8 @@ use races::Races;
 use table_entries::FilledTable;
 use trace::{Refusal, TraceFile};
 
-// Writes a race of `lower` with each of the first `count` numbers of a row, from a place of the list on.
+// Writes a race of `lower` with each of the first `count` numbers of a row, from a place of the list on: the numbers
+// behind these are of no race, and `count` stands beside the row as in `list_writer`.
 fn write_row(list: &mut [Race], at: usize, count: usize, lower: u16, row: &[u16; 1024])
     requires { (at + count ≤ length list.old) × (count ≤ 1024) }
     ensures { list.new ≡ paste list.old at (map (pair lower) row.now) count }

@@ -102,7 +102,7 @@ impl<'a> Search<'a> {
     }
 
     // Lists the higher operations of the races whose lower one is that of the next row, and answers how many there are;
-    // where `some` is 0, it is known to have none.
+    // where `some` is 0, it is known to have none. It is a count, and no bool: a row of one race is not passed over.
     pub fn list_row(&mut self, some: u16, row: &mut [u16; 1024]) -> usize
         requires { (self.old.next < size (trace_of self.old.filled.trace.bytes.now))
             × (some ≡ 0 → race_row (trace_of self.old.filled.trace.bytes.now) self.old.next ≡ []) }

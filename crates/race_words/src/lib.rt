@@ -52,7 +52,8 @@ fn note_free(
     }
 }
 
-// Notes all that row a needs: of each block from its own on that has an operation of the kept set.
+// Notes all that row a needs: of each block from its own on that has an operation of the kept set. It makes what `Row`
+// knows, so it cannot take one; a struct for its arguments would have one use.
 pub fn note_row(
     trace: &TraceFile<'_>,
     cells: &Cells,

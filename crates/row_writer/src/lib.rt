@@ -17,7 +17,7 @@ fn put<const N: usize>(done: &[u16; 16], at: usize, part: &mut [u16])
     }
 }
 
-// The counts of fewer than four workers.
+// The counts of fewer than four workers; one by one, as in `put`.
 fn put_few(done: &[u16; 16], part: &mut [u16])
     requires { length part.old ≤ 16 }
     ensures { part.new ≡ take (length part.old) done.now }

@@ -47,7 +47,8 @@ fn write_walk(
 }
 
 // Writes the run that holds worker q's operation with `prior` earlier ones back: the walk of p workers without it, and
-// from where that ends the walk with nothing left out.
+// from where that ends the walk with nothing left out. No `walk_twice` over a closure: its contract would have to carry
+// `Written`.
 pub fn write_run(index: &Index, p: usize, q: usize, prior: u16, run: &mut [u16; 1024]) -> Twice
     requires { (p ≤ 16)
         × (q < 16)

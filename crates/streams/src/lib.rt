@@ -28,7 +28,7 @@ enum Step {
 }
 
 // What comes after a call that was to move the bytes behind the first `count`, and answered `got`. One that moves none
-// is the end of the input in `reading`, and in writing a failure.
+// is the end of the input in `reading`, and in writing a failure: one function, as the definition `step_after` is one.
 fn step_after(got: io::Result<usize>, reading: bool, bytes: &[u8], count: usize) -> Step
     requires { AnswersBehind (length bytes.now) count got }
     ensures told { result ≡ step_after got reading count }

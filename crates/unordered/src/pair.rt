@@ -30,7 +30,7 @@ pub fn moves_bit(bound: u32, due: u32, own: u32, gone: u32) -> u32
 
 impl Unordered {
     // The high end of worker q's operations in w's set.
-    pub fn high_end(&self, w: usize, q: usize) -> usize
+    pub(crate) fn high_end(&self, w: usize, q: usize) -> usize
         requires { TwoWorkers w q }
         ensures { result ≡ high_of self.now w q }
     {
@@ -38,7 +38,7 @@ impl Unordered {
     }
 
     // The low end.
-    pub fn low_end(&self, w: usize, q: usize) -> usize
+    pub(crate) fn low_end(&self, w: usize, q: usize) -> usize
         requires { TwoWorkers w q }
         ensures { result ≡ low_of self.now w q }
     {
@@ -46,7 +46,7 @@ impl Unordered {
     }
 
     // Takes q's operation k into w's set, with the high end behind it.
-    pub fn take_one(&mut self, w: usize, q: usize, k: usize, after: u32)
+    pub(crate) fn take_one(&mut self, w: usize, q: usize, k: usize, after: u32)
         requires { TwoWorkers w q × (k < 1024) }
         ensures { TakenOne w q k after self.old self.new }
     {
@@ -56,7 +56,7 @@ impl Unordered {
     }
 
     // Lets q's operation k out of w's set, with the low end behind it.
-    pub fn let_one(&mut self, w: usize, q: usize, k: usize, after: u32)
+    pub(crate) fn let_one(&mut self, w: usize, q: usize, k: usize, after: u32)
         requires { TwoWorkers w q × (k < 1024) }
         ensures { LetOne w q k after self.old self.new }
     {
@@ -66,7 +66,7 @@ impl Unordered {
     }
 
     // Keeps the ranks of both ends.
-    pub fn keep(&mut self, w: usize, q: usize, due: u32, gone: u32)
+    pub(crate) fn keep(&mut self, w: usize, q: usize, due: u32, gone: u32)
         requires { TwoWorkers w q }
         ensures { RanksKept w q due gone self.old self.new }
     {
@@ -75,7 +75,7 @@ impl Unordered {
     }
 
     // The rank that is kept of the high end.
-    pub fn kept_due(&self, w: usize, q: usize) -> u32
+    pub(crate) fn kept_due(&self, w: usize, q: usize) -> u32
         requires { TwoWorkers w q }
         ensures { result ≡ due_of self.now w q }
     {
@@ -83,7 +83,7 @@ impl Unordered {
     }
 
     // That of the low end.
-    pub fn kept_gone(&self, w: usize, q: usize) -> u32
+    pub(crate) fn kept_gone(&self, w: usize, q: usize) -> u32
         requires { TwoWorkers w q }
         ensures { result ≡ gone_of self.now w q }
     {
