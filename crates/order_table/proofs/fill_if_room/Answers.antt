@@ -5,11 +5,6 @@ use Rattle.trace.proofs.Answers.{few-numbers}
 use Rattle.order_table.proofs.Answers.{call-filled, call-short}
 use Rattle.order_table.proofs.fill_if_room.Goals as goal
 
-pub overflow_mul-n : goal.overflow_mul-n
-overflow_mul-n c =
-    let few = few-numbers c.args.x.now.trace.holds in
-    search rules
-
 pub returns-then-n-p : goal.returns-then-n-p
 returns-then-n-p c =
     rw c.counts.ensures

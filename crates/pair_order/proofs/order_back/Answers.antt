@@ -10,9 +10,6 @@ walk_without-end-requires c =
     let low = worker-low (readable-operations x) c.requires.0.second_below c.worker.ensures.0 in
     (x.holds.most, low.0, readable-opens x)
 
-pub count_prior-prior-requires : goal.count_prior-prior-requires
-count_prior-prior-requires c = (c.args.x.now.handed.indexed, c.requires.0.second_below)
-
 pub must_precede-requires : goal.must_precede-requires
 must_precede-requires c =
     let x = readable c.args.x.now in

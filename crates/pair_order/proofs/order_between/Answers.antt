@@ -15,9 +15,6 @@ walk_twice-end-requires c =
     let low = worker-low (readable-operations x) c.requires.first_below c.worker.ensures.0 in
     (x.holds.most, low.0, readable-opens x)
 
-pub count_prior-prior-requires : goal.count_prior-prior-requires
-count_prior-prior-requires c = (c.args.x.now.handed.indexed, c.requires.first_below)
-
 pub accept_if_done-requires : goal.accept_if_done-requires
 accept_if_done-requires c =
     let x = readable c.args.x.now in
@@ -41,9 +38,6 @@ returns-then-must_precede c =
     let h = answer-accepts _ _ _ (sym c.in_ok-accept_if_done.ensures) in
     answer-ordered h.0 c.args.x.now.trace.holds _ _ c.requires
     (ordered-before _ _ _ c.must_precede.ensures c.if-must_precede.true)
-
-pub order_back-requires : goal.order_back-requires
-order_back-requires c = (c.requires, sym c.must_precede.ensures ∙ c.if-must_precede.false)
 
 pub returns : goal.returns
 returns c =

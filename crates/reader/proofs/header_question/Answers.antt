@@ -83,9 +83,6 @@ returns-then-not-count_fits c =
     (after-2 file (sym c.is_header.ensures ∙ c.if-not-is_header.false) w
     ∙ first-no _ 3 (from file 3) n))
 
-pub is_whole-requires : goal.is_whole-requires
-is_whole-requires c = leb-true _ _ (sym c.count_fits.ensures ∙ c.if-not-count_fits.false)
-
 pub returns-then-not-is_whole : goal.returns-then-not-is_whole
 returns-then-not-is_whole c =
     let file = c.args.file.now in

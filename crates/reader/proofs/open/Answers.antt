@@ -17,8 +17,3 @@ pub operation_in-header-requires : goal.operation_in-header-requires
 operation_in-header-requires c =
     let h = header-answered base _ (refuses-none c.in_default.ensures) in
     omega (arith, h.whole)
-
-pub ask_records-requires : goal.ask_records-requires
-ask_records-requires c =
-    let passes = refuses-none c.in_default.ensures in
-    header-holds base _ _ (sym passes) _ c.operation_in-header.ensures refl

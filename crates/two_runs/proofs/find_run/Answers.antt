@@ -4,9 +4,6 @@ use Rattle.pair_order.proofs.Answers.{readable, readable-operations, readable-le
 use Rattle.two_runs.proofs.Found.{readable-runnable}
 use Rattle.two_runs.proofs.find_run.Goals as goal
 
-pub count_prior-prior-requires : goal.count_prior-prior-requires
-count_prior-prior-requires c = (c.args.x.now.handed.indexed, c.requires)
-
 pub write_run-requires : goal.write_run-requires
 write_run-requires c =
     let x = readable c.args.x.now in

@@ -4,9 +4,6 @@ use native.Mathlib.Omega.{arith}
 use Rattle.trace.proofs.Answers.{record_of}
 use Rattle.trace.proofs.TraceFile.operation.Goals as goal
 
-pub record_start-requires : goal.record_start-requires
-record_start-requires c = omega (arith, (record_of _ _ c.requires).few)
-
 pub operation_in-requires : goal.operation_in-requires
 operation_in-requires c = omega (arith, (record_of _ _ c.requires).inside, c.record_start.ensures)
 
