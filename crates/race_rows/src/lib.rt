@@ -15,7 +15,7 @@ use table_entries::FilledTable;
 use unordered::Unordered;
 
 // A search for the races of a trace, row by row from row 0 on: `next` is the row that comes next. Its arrays, some
-// 23 KiB, are made in the caller's frame, and filled there by `begin`: a search that is handed over whole stands in two.
+// 23 KiB, are made in the caller's frame and filled there by `begin`: a search that is handed over whole stands in two.
 #[derive(Drop)]
 pub struct Search<'a> {
     pub filled: FilledTable<'a>,

@@ -11,8 +11,8 @@ use courses::Twice;
 use index::Index;
 use walk::{Limits, Walk};
 
-// Copies a stretch of the order to a part of the run that is as long. Number by number: a `copy_from_slice` whose length is
-// not known needs `memmove` of the C library, which the C interface does without.
+// Copies a stretch of the order to a part of the run that is as long. Number by number: a `copy_from_slice` whose length
+// is not known needs `memmove` of the C library, which the C interface does without.
 fn copy(from: &[u16], to: &mut [u16])
     requires { length from.now ≡ length to.old }
     ensures { to.new ≡ from.now }

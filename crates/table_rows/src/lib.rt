@@ -125,7 +125,8 @@ fn fill_worker(x: &IndexedFile<'_>, q: usize, table: &mut [u16])
     }
 }
 
-// Writes all rows, worker by worker. In a frame of its own, which does not stand beside that of the walk for question 10.
+// Writes all rows, worker by worker. In a frame of its own, so that it does not stand beside that of the walk for
+// question 10.
 #[inline(never)]
 pub fn fill(x: &IndexedFile<'_>, table: &mut [u16])
     requires { Fillable x.now.trace.bytes.now x.now.trace.workers x.now.trace.operations table.old }

@@ -88,8 +88,8 @@ fn runs_if_unordered(
 }
 
 // Questions 10 and 14 of two different operations: one walk, first without b and then with it, answers 10 and the first
-// direction of 14, and what it adds is the run that holds b back. Nothing is written to the buffers yet. Both runs stand
-// in its frame, and not beside that of the walk for a pair that is none.
+// direction of 14, and what it adds is the run that holds b back. Nothing is written to the buffers yet. Both runs
+// stand in its frame, and not beside that of the walk for a pair that is none.
 #[inline(never)]
 fn runs_between(
     x: &IndexedFile<'_>,

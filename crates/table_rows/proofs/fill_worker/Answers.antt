@@ -22,7 +22,8 @@ loop-from-init c =
     let (begun, ends, none) = c.begin.ensures in
     rw c.from-own.ensures
     (kept-begun x c.requires.1 begun
-    (record { undone = none.undone; unposted = search rules; unawaited = none.unawaited }) (rw c.from-p.ensures at c.below.ensures) c.without-ready.ensures)
+    (record { undone = none.undone; unposted = search rules; unawaited = none.unawaited })
+    (rw c.from-p.ensures at c.below.ensures) c.without-ready.ensures)
 
 pub put_rows-requires : goal.put_rows-requires
 put_rows-requires c =
