@@ -47,7 +47,8 @@ pub fn accept(file: &[u8]) -> Result<Counts, Refusal>
     ensures { result ≡ accept_answer file.now }
 {
     let trace = reader::open(file)?;
-    let index = Index::of(&trace);
+    let mut index = Index::none();
+    index.fill(&trace);
     accept_if_complete(&IndexedFile {
         trace,
         index: &index,

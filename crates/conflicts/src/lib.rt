@@ -3,7 +3,7 @@
 
 ghost use Rattle.std.specs.Prelude.{◌≡◌, ◌+◌, ◌*◌, ◌^◌, ◌<◌, get_or};
 ghost use Rattle.trace.specs.Reading.{trace_of};
-ghost use Rattle.trace.specs.Trace.{size, is_write};
+ghost use Rattle.trace.specs.Trace.{Trace, size, is_write};
 ghost use Rattle.conflicts.specs.Cells.{bit, BitFits, first_cell, last_cell, CellsFit, place, CellsRead};
 ghost use Rattle.conflicts.specs.Cells.{CellsHold, meet, met_at, BlockMet, ConflictsIn};
 
@@ -70,19 +70,26 @@ pub struct Cells {
 }
 
 impl Cells {
-    // Those of a trace.
-    pub fn of(trace: &TraceFile<'_>) -> Cells
-        ensures { CellsHold (trace_of trace.now.bytes.now) result }
+    // Those of no operation. Made in the caller's frame, and nowhere else: a search's arrays are some 23 KiB.
+    #[inline(always)]
+    pub fn none() -> Cells
+        ensures { (t : Trace) → CellsRead t 0 result }
     {
-        let mut cells = Cells {
+        Cells {
             first: [0; 1024],
             last: [0; 1024],
             writes: [0; 32],
-        };
-        for k in 0..trace.operations as usize {
-            cells.read(trace, k);
         }
-        cells
+    }
+
+    // Reads those of a trace, whatever was here before.
+    pub fn fill(&mut self, trace: &TraceFile<'_>)
+        ensures { CellsHold (trace_of trace.now.bytes.now) self.new }
+    {
+        self.writes = [0; 32];
+        for k in 0..trace.operations as usize {
+            self.read(trace, k);
+        }
     }
 
     // Reads the cells of operation k, and marks it if it is a Write.

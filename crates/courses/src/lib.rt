@@ -1,7 +1,8 @@
 // Where a walk starts, with nothing left out or without an operation, and what its end tells. For the crates above,
 // which have read the file and made its index before. The functions take any index, and say in a clause what they need
 // of it: an `IndexedFile` would ask more. The walks differ in what they do at each turn: one function over a closure
-// would have its contract carry what is written.
+// would have its contract carry what is written. What begins a walk is inlined: it is some 600 bytes, which would be
+// copied at each call.
 #![tactic(auto)]
 
 ghost use Rattle.std.specs.Prelude.{List, ◌≡◌, ℕ, ◌+◌, ◌-◌, ◌<◌, ◌≤◌, get_or, set};
@@ -16,6 +17,7 @@ use index::Index;
 use walk::{Limits, Walk};
 
 // Each worker at the start of its list, which it goes to the end, with nothing done.
+#[inline(always)]
 pub fn begin(index: &Index) -> (Limits, Walk)
     requires { (q : ℕ) → q < 16 → get_or index.now.starts q 0 ≤ get_or index.now.starts (q + 1) 0 }
     ensures { Begun index.now.starts result.1.nexts result.0.lasts 16
@@ -54,6 +56,7 @@ fn entry_from(list: &[u32; 1024], from: usize, end: usize, prior: u32) -> usize
 }
 
 // The same, but that worker q's list ends before its operation with `prior` earlier ones.
+#[inline(always)]
 pub fn begin_without(index: &Index, q: usize, prior: u16) -> (Limits, Walk)
     requires { (q < 16) × Opens index.now.starts index.now.ends }
     ensures { BegunWithout index.now.starts index.now.list index.now.ends q prior

@@ -60,7 +60,7 @@ fn order_of(search: &Search, a: usize, b: usize) -> Option<Ordering> {
 // Is there a set of several operations, one of which has to be done?
 fn has_shared_event(rules: &Rules) -> bool {
     rules.of.iter().any(|rule| match rule {
-        Some(rule) => rule.one_of.is_some_and(|set| 1 < set.size()),
+        Some(rule) => rule.has_choice(),
         None => false,
     })
 }

@@ -25,7 +25,8 @@ pub struct Meetings {
 }
 
 impl Meetings {
-    // Nothing is noted.
+    // Nothing is noted. Made in the caller's frame, and nowhere else: a search's arrays are some 23 KiB.
+    #[inline(always)]
     pub fn none() -> Meetings
         ensures { Forgotten result }
     {
@@ -35,6 +36,13 @@ impl Meetings {
             last: [0; 32],
             noted: [0; 32],
         }
+    }
+
+    // Forgets all that is noted.
+    pub fn forget(&mut self)
+        ensures { Forgotten self.new }
+    {
+        self.noted = [0; 32];
     }
 
     // Is the slot the one of these cells?

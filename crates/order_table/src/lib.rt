@@ -29,12 +29,19 @@ fn fill_if_room(x: &IndexedFile<'_>, table: &mut [u16]) -> Result<Counts, Refusa
 pub fn order_table(file: &[u8], table: &mut [u16]) -> Result<Counts, Refusal>
     ensures { TableCall file.now table.old result table.new }
 {
-    let trace = reader::open(file)?;
-    let index = Index::of(&trace);
+    // A `match` and no `?`: the edit `place_of_reader` changes what a refusal is handed on as, and nothing else.
+    let trace = match reader::open(file) {
+        Ok(trace) => trace,
+        Err(unread) => return Err(unread),
+    };
+    let mut index = Index::none();
+    index.fill(&trace);
     let x = IndexedFile {
         trace,
         index: &index,
     };
-    accept::accept_if_complete(&x)?;
-    fill_if_room(&x, table)
+    match accept::accept_if_complete(&x) {
+        Ok(_) => fill_if_room(&x, table),
+        Err(stuck) => Err(stuck),
+    }
 }

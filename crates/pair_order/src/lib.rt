@@ -108,7 +108,8 @@ pub fn pair_order(file: &[u8], a: u32, b: u32) -> Result<i8, Refusal>
     ensures { result ≡ order_answer file.now a b }
 {
     let trace = reader::open(file)?;
-    let index = Index::of(&trace);
+    let mut index = Index::none();
+    index.fill(&trace);
     let x = IndexedFile {
         trace,
         index: &index,

@@ -33,7 +33,11 @@ fn write_races(filled: &FilledTable<'_>, count: usize, list: &mut [Race])
     requires { (count ≡ race_count (trace_of filled.now.trace.bytes.now)) × (count ≤ length list.old) }
     ensures { list.new ≡ written_over (race_list (trace_of filled.now.trace.bytes.now)) list.old }
 {
+    if count == 0 {
+        return;
+    }
     let mut search = Search::of(*filled);
+    search.begin();
     let mut row = [0u16; 1024];
     let mut a: usize = 0;
     let mut at: usize = 0;

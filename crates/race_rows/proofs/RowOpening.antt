@@ -45,6 +45,11 @@ row-passed s =
       notes = s.notes;
     }
 
+-- the row that comes next may be written otherwise
+pub searching_at : {t : Trace} {table : List ℕ} {a b : ℕ} {cells : Cells} {kept : Unordered} {seen : Meetings} → b ≡ a
+    → Searching t table a cells kept seen → Searching t table b cells kept seen
+searching_at e s = rw e s
+
 -- an operation that is no Read or Write has no race
 pub row-no-access : (t : Trace) (a : ℕ) → is_access (operation t a).kind ≡ false → race_row t a ≡ []
 row-no-access t a e = passing-none (is_race t a) (size t) (λ b l. race-access t a b e)

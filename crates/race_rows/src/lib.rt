@@ -6,7 +6,7 @@ ghost use Rattle.trace.specs.Reading.{trace_of};
 ghost use Rattle.trace.specs.Trace.{size, worker_of};
 ghost use Rattle.race_model.specs.RaceRows.{race_row, RowHolds};
 ghost use Rattle.race_words.specs.RaceWords.{RowReady};
-ghost use Rattle.race_rows.specs.Rows.{Searching};
+ghost use Rattle.race_rows.specs.Rows.{Ready};
 
 use conflicts::Cells;
 use meetings::Meetings;
@@ -14,7 +14,8 @@ use race_words::Row;
 use table_entries::FilledTable;
 use unordered::Unordered;
 
-// A search for the races of a trace, row by row from row 0 on: `next` is the row that comes next.
+// A search for the races of a trace, row by row from row 0 on: `next` is the row that comes next. Its arrays, some
+// 23 KiB, are made in the caller's frame and filled there by `begin`: a search that is handed over whole stands in two.
 #[derive(Drop)]
 pub struct Search<'a> {
     pub filled: FilledTable<'a>,
@@ -22,29 +23,40 @@ pub struct Search<'a> {
     kept: Unordered,
     seen: Meetings,
     pub next: usize,
-    pub ghost searching: { Searching (trace_of filled.trace.bytes.now) filled.table.now next cells kept seen },
 }
 
 impl<'a> Search<'a> {
-    // A search that stands before row 0.
+    // A search that has not begun.
+    #[inline(always)]
     pub fn of(filled: FilledTable<'a>) -> Search<'a>
         ensures { (result.filled ≡ filled.entry) × (result.next ≡ 0) }
     {
-        let trace = filled.trace;
         Search {
             filled,
-            cells: Cells::of(&trace),
-            kept: Unordered::of(&trace),
+            cells: Cells::none(),
+            kept: Unordered::none(),
             seen: Meetings::none(),
             next: 0,
         }
     }
 
+    // Begins the search before row 0, whatever was found before.
+    pub fn begin(&mut self)
+        ensures { Ready self.new × (self.new.filled ≡ self.old.filled) × (self.new.next ≡ 0) }
+    {
+        let trace = self.filled.trace;
+        self.cells.fill(&trace);
+        self.kept.begin(&trace);
+        self.seen.forget();
+        self.next = 0;
+    }
+
     // Goes on to the next row, and answers the slot of its cells.
     fn open(&mut self) -> usize
-        requires { self.old.next < size (trace_of self.old.filled.trace.bytes.now) }
+        requires { Ready self.old × (self.old.next < size (trace_of self.old.filled.trace.bytes.now)) }
         ensures { RowReady (trace_of self.old.filled.trace.bytes.now) self.old.next self.new.cells self.new.kept
             self.new.seen (worker_of (trace_of self.old.filled.trace.bytes.now) self.old.next) result
+            × Ready self.new
             × (self.new.filled ≡ self.old.filled)
             × (self.new.next ≡ self.old.next + 1) }
     {
@@ -86,8 +98,9 @@ impl<'a> Search<'a> {
 
     // How many races there are whose lower operation is that of the next row. One that is no Read or Write has none.
     pub fn count_row(&mut self) -> usize
-        requires { self.old.next < size (trace_of self.old.filled.trace.bytes.now) }
+        requires { Ready self.old × (self.old.next < size (trace_of self.old.filled.trace.bytes.now)) }
         ensures { (result ≡ length (race_row (trace_of self.old.filled.trace.bytes.now) self.old.next))
+            × Ready self.new
             × (self.new.filled ≡ self.old.filled)
             × (self.new.next ≡ self.old.next + 1) }
     {
@@ -104,9 +117,10 @@ impl<'a> Search<'a> {
     // Lists the higher operations of the races whose lower one is that of the next row, and answers how many there are;
     // where `some` is 0, it is known to have none. It is a count, and no bool: a row of one race is not passed over.
     pub fn list_row(&mut self, some: u16, row: &mut [u16; 1024]) -> usize
-        requires { (self.old.next < size (trace_of self.old.filled.trace.bytes.now))
+        requires { Ready self.old × (self.old.next < size (trace_of self.old.filled.trace.bytes.now))
             × (some ≡ 0 → race_row (trace_of self.old.filled.trace.bytes.now) self.old.next ≡ []) }
         ensures { RowHolds (race_row (trace_of self.old.filled.trace.bytes.now) self.old.next) result row.new
+            × Ready self.new
             × (self.new.filled ≡ self.old.filled)
             × (self.new.next ≡ self.old.next + 1) }
     {
@@ -123,8 +137,9 @@ impl<'a> Search<'a> {
 
     // The same, of which nothing is known.
     pub fn next_row(&mut self, row: &mut [u16; 1024]) -> usize
-        requires { self.old.next < size (trace_of self.old.filled.trace.bytes.now) }
+        requires { Ready self.old × (self.old.next < size (trace_of self.old.filled.trace.bytes.now)) }
         ensures { RowHolds (race_row (trace_of self.old.filled.trace.bytes.now) self.old.next) result row.new
+            × Ready self.new
             × (self.new.filled ≡ self.old.filled)
             × (self.new.next ≡ self.old.next + 1) }
     {

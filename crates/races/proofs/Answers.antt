@@ -117,6 +117,9 @@ pub record AllCounted (bytes table : List ℕ) (numbers room count : ℕ) : Type
   pub listed : races_listed bytes numbers room ≡ race_list (trace_of bytes)
 
 module _ {bytes lent now : List ℕ} {room : ℕ} where
+  pub counts-length : {answer : Result Races Refusal} → CountCall bytes lent room answer now → length now ≡ length lent
+  counts-length c = rw c.leaves_table (after-length bytes lent)
+
   pub all-counted : {r : Races} → CountCall bytes lent room (Ok r) now
       → AllCounted bytes now (length lent) room r.races
   unfolding races_answer

@@ -20,6 +20,7 @@ fn count_races(filled: &FilledTable<'_>, counts: &mut [u16; 1024]) -> u32
         × Hints (trace_of filled.now.trace.bytes.now) counts.new }
 {
     let mut search = Search::of(*filled);
+    search.begin();
     let mut count: usize = 0;
     for a in 0..filled.trace.operations as usize {
         let found = search.count_row();
@@ -73,6 +74,7 @@ fn write_rows(
 {
     let n = filled.trace.operations as usize;
     let mut search = Search::of(*filled);
+    search.begin();
     let mut row = [0u16; 1024];
     let mut at: usize = 0;
     for a in 0..n {

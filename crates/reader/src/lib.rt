@@ -1,5 +1,5 @@
-// Reading a trace file: the questions of its header and of its records. Only `read` and `open` are called from other
-// crates; they require nothing.
+// Reading a trace file: the questions of its header and of its records. `read` and `open` are for callers, the calls
+// `open`; they require nothing.
 #![tactic(auto)]
 
 ghost use Rattle.std.specs.Prelude.{List, ◌≡◌, ◌+◌, ◌≤◌, eqb, length, drop, MatchResult};
@@ -8,7 +8,7 @@ ghost use Rattle.trace.specs.Form.{base, record_size};
 ghost use Rattle.trace.specs.Questions.{marked, is_header, workers_fit, count_fits, is_whole, header_question};
 ghost use Rattle.trace.specs.Questions.{worker_known, kind_known, event_fits, cells_fit, record_question};
 ghost use Rattle.trace.specs.Reading.{refused, reads, file_reading, trace_of};
-ghost use Rattle.reader.specs.Answer.{answer_of, refusing};
+ghost use Rattle.reader.specs.Answer.{answer_of, opened, refusing};
 ghost use Rattle.reader.specs.Premises.{HoldsHeader};
 
 use trace::{Counts, MARK, Operation, RECORD_SIZE, Refusal, TraceFile};
@@ -166,8 +166,9 @@ fn ask_records(file: &[u8], p: u8, n: u32) -> Result<(), Refusal>
 // The questions of the header and of each record, of any bytes; where none refuses, the file as one that reads as a
 // trace.
 pub fn open(file: &[u8]) -> Result<TraceFile<'_>, Refusal>
-    ensures { MatchResult result (λ t. t.bytes.now ≡ file.now)
+    ensures opens { MatchResult result (λ t. t.bytes.now ≡ file.now)
         (λ r. file_reading file.now ≡ refused r.number r.place) }
+    ensures answers { opened result ≡ answer_of (file_reading file.now) }
 {
     if let Some(number) = header_question(file) {
         return Err(Refusal { number, place: 0 });

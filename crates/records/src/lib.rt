@@ -19,10 +19,14 @@ fn record_of(o: Operation) -> [u8; trace::RECORD_SIZE]
     ]
 }
 
-// Writes the record of an operation, whatever its rank.
+// Writes the record of an operation, whatever its rank. Byte by byte: with `copy_from_slice` the array is stored before
+// it is copied, and the tidy file took half as long again.
 pub fn write_record(o: Operation, part: &mut [u8])
     requires { length part.old ≡ record_size base }
     ensures { (rank : ℕ) → part.new ≡ record_bytes base rank o }
 {
-    part.copy_from_slice(&record_of(o));
+    let bytes = record_of(o);
+    for i in 0..part.len() {
+        part[i] = bytes[i];
+    }
 }

@@ -1,7 +1,7 @@
 // Writing the run that holds an operation back.
 #![tactic(auto)]
 
-ghost use Rattle.std.specs.Prelude.{List, ◌≡◌, ℕ, ◌<◌, ◌≤◌};
+ghost use Rattle.std.specs.Prelude.{List, ◌≡◌, ℕ, ◌<◌, ◌≤◌, length};
 ghost use Rattle.trace.specs.Trace.{Trace};
 ghost use Rattle.index.specs.Indexed.{Places};
 ghost use Rattle.courses.specs.Courses.{LeftOut};
@@ -10,6 +10,17 @@ ghost use Rattle.run_writer.specs.Writing.{Written, Writing, Runnable, WritesRun
 use courses::Twice;
 use index::Index;
 use walk::{Limits, Walk};
+
+// Copies a stretch of the order to a part of the run that is as long. Number by number: a `copy_from_slice` whose length
+// is not known needs `memmove` of the C library, which the C interface does without.
+fn copy(from: &[u16], to: &mut [u16])
+    requires { length from.now ≡ length to.old }
+    ensures { to.new ≡ from.now }
+{
+    for i in 0..to.len() {
+        to[i] = from[i];
+    }
+}
 
 // Goes on with a walk until no worker is ready, the lowest-numbered worker first, and writes down what it adds: turn by
 // turn, the stretch of the order that the worker went. Answers how long the run is then.
@@ -40,7 +51,7 @@ fn write_walk(
         ready = walk.turn(&index.list, limits, true, ready, q);
         let more = usize::from(walk.done[w]) - before;
         let first = usize::from(index.starts[w]) + before;
-        run[at..at + more].copy_from_slice(&index.order[first..first + more]);
+        copy(&index.order[first..first + more], &mut run[at..at + more]);
         at += more;
     }
     at

@@ -42,20 +42,35 @@ impl Set {
     }
 }
 
-// An operation may follow when all of a set are done, and one of another set, where there is one.
+// An operation may follow when all of a set are done, and one of each of up to eight other sets.
 #[derive(Clone, Copy)]
 pub struct Rule {
     all: Set,
-    pub one_of: Option<Set>,
+    one_of: [Option<Set>; 8],
 }
 
 impl Rule {
-    fn allows(self, done: Set) -> bool {
-        let has_one = match self.one_of {
+    // The same, and one of the set; none where there are eight such sets.
+    fn and_one_of(mut self, set: Set) -> Option<Rule> {
+        let free = self.one_of.iter().position(|other| other.is_none())?;
+        *self.one_of.get_mut(free)? = Some(set);
+        Some(self)
+    }
+
+    fn allows(&self, done: Set) -> bool {
+        let has_each = self.one_of.iter().all(|set| match set {
             Some(set) => set.meets(done),
             None => true,
-        };
-        done.contains(self.all) && has_one
+        });
+        done.contains(self.all) && has_each
+    }
+
+    // Is there a set of several operations, one of which has to be done?
+    pub fn has_choice(&self) -> bool {
+        self.one_of.iter().any(|set| match set {
+            Some(set) => 1 < set.size(),
+            None => false,
+        })
     }
 }
 
@@ -88,15 +103,15 @@ fn posts(file: &[u8], event: u32) -> Set {
 
 // What x needs: the earlier operations of its worker, and by its kind a Wait a Post of its event.
 fn rule_of(file: &[u8], x: usize) -> Option<Rule> {
-    let one_of = match plain_file::kind_of(file, x)? {
-        Kind::Wait if plain_file::length_of(file, x) != 0 => return None,
-        Kind::Wait => Some(posts(file, plain_file::number_of(file, x))),
-        Kind::Post | Kind::Read | Kind::Write => None,
-    };
-    Some(Rule {
+    let rule = Rule {
         all: earlier(file, x),
-        one_of,
-    })
+        one_of: [None; 8],
+    };
+    match plain_file::kind_of(file, x)? {
+        Kind::Wait if plain_file::length_of(file, x) != 0 => None,
+        Kind::Wait => rule.and_one_of(posts(file, plain_file::number_of(file, x))),
+        Kind::Post | Kind::Read | Kind::Write => Some(rule),
+    }
 }
 
 impl Rules {

@@ -84,7 +84,7 @@ module _ {bytes : List ℕ} {p n : ℕ} {order starts list ends before : List �
       → Without all q ready
       → KeptTo (trace_of bytes) starts list ends lasts q 0 (get_or starts q 0) firsts (set counts q 0) events waiting
       ready before before
-  kept-begun u every w = rw (u.undone, u.unposted, u.unawaited, none-own q) (kept-to (kept-start every w))
+  kept-begun u every w = rw (u.undone, u.unposted, u.unawaited, none-own q) (kept-to x hq begun (kept-start every w))
 
 -- ---- worker after worker
 

@@ -1,6 +1,5 @@
 -- The rows of one worker's operations, for which the walk is kept. In order: the walk to its end; the stretch up to a
--- step that frees somebody, and its rows; behind it; the end. `kept-last` and `kept-end` no answer cites: the loop ends
--- in one way, by `kept-to_end`.
+-- step that frees somebody, and its rows; behind it; the end.
 use mathlib.Core.List.{List, ◌++◌}
 use mathlib.Core.Path.{◌≡◌, refl, sym, ap, ◌∙◌}
 use native.Mathlib.Nat.{suc-mul, mul-le-mul_right}
@@ -47,15 +46,10 @@ pub record KeptTo (t : Trace) (starts list ends lasts : List ℕ) (q i own : ℕ
   pub upto : i ≤ get_or lasts q 0
   pub kept : i < get_or lasts q 0
       → KeptAt t starts list ends lasts q i own nexts counts events waiting ready before now
+  pub filled : get_or lasts q 0 ≤ i → FillsPart t starts q before now
   pub same_length : length now ≡ length before
   pub rows : (old : List ℕ) → RowsTo t starts (get_or starts q 0) old before
       → RowsTo t starts (get_or starts q 0 + i) old now
-
-pub kept-to : {t : Trace} {starts list ends lasts : List ℕ} {q i own : ℕ} {nexts counts events waiting : List ℕ}
-    {ready : ℕ} {before now : List ℕ}
-    → KeptAt t starts list ends lasts q i own nexts counts events waiting ready before now
-    → KeptTo t starts list ends lasts q i own nexts counts events waiting ready before now
-kept-to k = record { sized = k.sized; upto = k.upto; kept = λ l. k; same_length = k.same_length; rows = k.rows }
 
 -- an accepted file with its index, and a table that holds n × p numbers
 pub record Known (bytes : List ℕ) (p n : ℕ) (order starts list ends table : List ℕ) : Type 0 where
@@ -179,6 +173,11 @@ module _ {bytes : List ℕ} {p n : ℕ} {order starts list ends before : List �
               rows = rows-to;
             }
 
+        pub kept-last : get_or lasts q 0 ≤ to → FillsPart t starts q before now'
+        kept-last j old r =
+            let e : get_or starts q 0 + to ≡ get_or starts (q + 1) 0 = omega (arith, j, passed.most, last-place) in
+            rw e at (rows-to old r)
+
         pub kept-on : KeptTo t starts list ends lasts q to at nexts' (set counts' q to) events'' waiting'' freed before
             now'
         kept-on =
@@ -186,25 +185,35 @@ module _ {bytes : List ℕ} {p n : ℕ} {order starts list ends before : List �
               sized = w.sized;
               upto = passed.most;
               kept = kept_next;
+              filled = kept-last;
               same_length = a.same_length ∙ k.same_length;
               rows = rows-to;
             }
 
-        pub kept-last : get_or lasts q 0 ≤ to → FillsPart t starts q before now'
-        kept-last j old r =
-            let e : get_or starts q 0 + to ≡ get_or starts (q + 1) 0 = omega (arith, j, passed.most, last-place) in
-            rw e at (rows-to old r)
-
   -- ---- the end
-
-  pub kept-to_end : {i own : ℕ} {nexts counts events waiting : List ℕ} {ready : ℕ} {now : List ℕ}
-      → KeptTo t starts list ends lasts q i own nexts counts events waiting ready before now
-      → get_or lasts q 0 ≤ i → FillsPart t starts q before now
-  kept-to_end {i} k l old r =
-      let e : get_or starts q 0 + i ≡ get_or starts (q + 1) 0 = omega (arith, l, k.upto, last-place) in
-      rw e at (k.rows old r)
 
   pub kept-end : {i own : ℕ} {nexts counts events waiting : List ℕ} {ready : ℕ} {now : List ℕ}
       → KeptAt t starts list ends lasts q i own nexts counts events waiting ready before now
       → get_or lasts q 0 ≤ i → FillsPart t starts q before now
-  kept-end k = kept-to_end (kept-to k)
+  kept-end {i} k l old r =
+      let e : get_or starts q 0 + i ≡ get_or starts (q + 1) 0 = omega (arith, l, k.upto, last-place) in
+      rw e at (k.rows old r)
+
+  pub kept-to_end : {i own : ℕ} {nexts counts events waiting : List ℕ} {ready : ℕ} {now : List ℕ}
+      → KeptTo t starts list ends lasts q i own nexts counts events waiting ready before now
+      → get_or lasts q 0 ≤ i → FillsPart t starts q before now
+  kept-to_end k l = k.filled l
+
+  -- a walk that is kept for an operation, whether or not the worker has it
+  pub kept-to : {i own : ℕ} {nexts counts events waiting : List ℕ} {ready : ℕ} {now : List ℕ}
+      → KeptAt t starts list ends lasts q i own nexts counts events waiting ready before now
+      → KeptTo t starts list ends lasts q i own nexts counts events waiting ready before now
+  kept-to k =
+      record {
+        sized = k.sized;
+        upto = k.upto;
+        kept = λ l. k;
+        filled = kept-end k;
+        same_length = k.same_length;
+        rows = k.rows;
+      }

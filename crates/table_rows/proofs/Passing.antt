@@ -1,5 +1,5 @@
 -- A worker's steps up to one that frees somebody, in whatever trace. In order: whatever the arrays' lengths are; with
--- the lengths, which no answer cites, since a type tells them.
+-- the lengths.
 use mathlib.Core.List.{List}
 use mathlib.Core.Path.{◌≡◌, ◌∙◌}
 use native.Mathlib.Omega.{arith}

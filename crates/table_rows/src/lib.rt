@@ -1,12 +1,12 @@
 // Writing the rows of the order table of an accepted file.
 #![tactic(auto)]
 
-ghost use Rattle.std.specs.Prelude.{◌≡◌, ℕ, ◌<◌, ◌≤◌, set, take, replicate};
+ghost use Rattle.std.specs.Prelude.{◌≡◌, ℕ, ◌<◌, ◌≤◌, length, set, take, replicate};
 ghost use Rattle.trace.specs.Reading.{trace_of};
 ghost use Rattle.walk.specs.Going.{Sized, Walked};
 ghost use Rattle.lent.specs.Written.{written_over};
 ghost use Rattle.table_rows.specs.Filling.{RoomAt, RoomAlong, Fillable, row_put, RowsAlong, FillsPart};
-ghost use Rattle.table_rows.specs.Passing.{Passes};
+ghost use Rattle.table_rows.specs.Passing.{Passes, PassesOwn};
 ghost use Rattle.table_rows.specs.Rows.{order_table};
 
 use index::{Index, IndexedFile};
@@ -60,7 +60,10 @@ fn pass_own(list: &[u32; 1024], own: usize, end: usize, last: usize, walk: &mut 
     ensures { ((q : ℕ) → Passes list.now q own «end» last walk.old.events walk.old.waiting
         walk.new.events walk.new.waiting result.at result.to result.freed)
         × (walk.new.nexts ≡ walk.old.nexts)
-        × (walk.new.done ≡ walk.old.done) }
+        × (walk.new.done ≡ walk.old.done)
+        × ((q : ℕ) → length walk.old.events ≡ 4 → length walk.old.waiting ≡ 256
+        → PassesOwn list.now q own «end» last walk.old.events walk.old.waiting
+        walk.new.events walk.new.waiting result.at result.to result.freed) }
 {
     for at in own..end {
         let x = list[at];
@@ -122,7 +125,9 @@ fn fill_worker(x: &IndexedFile<'_>, q: usize, table: &mut [u16])
     }
 }
 
-// Writes all rows, worker by worker.
+// Writes all rows, worker by worker. In a frame of its own, so that it does not stand beside that of the walk for
+// question 10.
+#[inline(never)]
 pub fn fill(x: &IndexedFile<'_>, table: &mut [u16])
     requires { Fillable x.now.trace.bytes.now x.now.trace.workers x.now.trace.operations table.old }
     ensures { table.new ≡ written_over (order_table (trace_of x.now.trace.bytes.now)) table.old }

@@ -88,7 +88,9 @@ fn runs_if_unordered(
 }
 
 // Questions 10 and 14 of two different operations: one walk, first without b and then with it, answers 10 and the first
-// direction of 14, and what it adds is the run that holds b back. Nothing is written to the buffers yet.
+// direction of 14, and what it adds is the run that holds b back. Nothing is written to the buffers yet. Both runs
+// stand in its frame, and not beside that of the walk for a pair that is none.
+#[inline(never)]
 fn runs_between(
     x: &IndexedFile<'_>,
     a: u32,
@@ -105,7 +107,7 @@ fn runs_between(
     if pair_order::must_precede(&x.trace, x.index, &end.held, b as usize, a as usize) {
         return Err(Refusal {
             number: 14,
-            place: 0,
+            place: 0, // b before a
         });
     }
     runs_if_unordered(x, a, b, &one, first, second)
@@ -123,7 +125,8 @@ pub fn two_runs(
     ensures { RunsCall file.now a b first.old second.old result first.new second.new }
 {
     let trace = reader::open(file)?;
-    let index = Index::of(&trace);
+    let mut index = Index::none();
+    index.fill(&trace);
     let x = IndexedFile {
         trace,
         index: &index,

@@ -3,7 +3,7 @@
 // tell for all q whether an end has to move.
 #![tactic(auto)]
 
-ghost use Rattle.std.specs.Prelude.{◌≡◌, List, ℕ, ◌+◌, ◌<◌, false};
+ghost use Rattle.std.specs.Prelude.{◌≡◌, List, ℕ, ◌+◌, ◌<◌, false, replicate};
 ghost use Rattle.trace.specs.Reading.{trace_of};
 ghost use Rattle.trace.specs.Trace.{size};
 ghost use Rattle.unordered.specs.Beginning.{ReadFrom, first_end, EndsSet};
@@ -66,21 +66,32 @@ pub struct Unordered {
 }
 
 impl Unordered {
-    // Before the first operation all sets are empty.
-    pub fn of(trace: &TraceFile<'_>) -> Unordered
-        ensures { (table : List ℕ) → Carried (trace_of trace.now.bytes.now) table 0 result }
+    // Nothing is in any set. Made in the caller's frame, and nowhere else: a search's arrays are some 23 KiB.
+    #[inline(always)]
+    pub fn none() -> Unordered
+        ensures { result.sets ≡ replicate 512 0 }
     {
-        let mut next = [0; 1024];
-        let firsts = read_next(trace, &mut next);
-        let ends = first_ends(&firsts);
         Unordered {
-            next,
+            next: [0; 1024],
             sets: [0; 512],
-            high: ends,
-            low: ends,
+            high: [0; 256],
+            low: [0; 256],
             due: [0; 256],
             gone: [0; 256],
         }
+    }
+
+    // Before the first operation of a trace all sets are empty, whatever was here before.
+    pub fn begin(&mut self, trace: &TraceFile<'_>)
+        ensures { (table : List ℕ) → Carried (trace_of trace.now.bytes.now) table 0 self.new }
+    {
+        let firsts = read_next(trace, &mut self.next);
+        let ends = first_ends(&firsts);
+        self.sets = [0; 512];
+        self.high = ends;
+        self.low = ends;
+        self.due = [0; 256];
+        self.gone = [0; 256];
     }
 
     // Takes into w's set those of q's operations that a is the first of w's not to be certain before.

@@ -8,4 +8,4 @@ use Rattle.pair_order.proofs.pair_order.Goals as goal
 pub returns-in_err-trace : goal.returns-in_err-trace
 returns-in_err-trace c =
     let p = err_from_is_err_and c.from_residual.result c.from_residual.ensures.1 in
-    rw (p.1, p.2) (answer-unaccepted _ _ _ (sym (answer-unread _ c.in_err-trace.ensures)))
+    rw (p.1, p.2) (answer-unaccepted _ _ _ (sym (answer-unread _ c.in_err-trace.ensures.opens)))

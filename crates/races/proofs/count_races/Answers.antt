@@ -9,19 +9,19 @@ use Rattle.races.proofs.PairWriting.{count_none, row_few, count-more, count-all}
 use Rattle.races.proofs.count_races.Goals as goal
 
 pub loop-a-init : goal.loop-a-init
-loop-a-init c = (count_none _ (search rules), c.of-search.ensures.0, c.of-search.ensures.1)
+loop-a-init c = (count_none _ (search rules), c.begin.ensures.0, c.begin.ensures.1 ∙ c.of-search.ensures.0, c.begin.ensures.2)
 
 pub overflow_cast-counts : goal.overflow_cast-counts
 overflow_cast-counts c =
     let filled = c.args.filled.now in
-    let found = rw (c.loop-a.invariant.1, c.loop-a.invariant.2) at c.count_row-found.ensures.0 in
+    let found = rw (c.loop-a.invariant.2, c.loop-a.invariant.3) at c.count_row-found.ensures.0 in
     omega (arith, found, table-short filled.holds, row_few (trace_of filled.trace.bytes.now) c.loop-a.a)
 
 pub overflow_add-count : goal.overflow_add-count
 overflow_add-count c =
     let filled = c.args.filled.now in
     let inv = c.loop-a.invariant.0 in
-    let found = rw (c.loop-a.invariant.1, c.loop-a.invariant.2) at c.count_row-found.ensures.0 in
+    let found = rw (c.loop-a.invariant.2, c.loop-a.invariant.3) at c.count_row-found.ensures.0 in
     omega (
       arith,
       inv.few,
@@ -34,10 +34,11 @@ overflow_add-count c =
 pub loop-a-preserved : goal.loop-a-preserved
 loop-a-preserved c =
     let filled = c.args.filled.now in
-    let (inv, same, next) = c.loop-a.invariant in
-    let (found, kept, on) = c.count_row-found.ensures in (
+    let (inv, ready, same, next) = c.loop-a.invariant in
+    let (found, goes, kept, on) = c.count_row-found.ensures in (
       count-more inv (table-short filled.holds) (omega (arith, c.loop-a-test.true, filled.trace.holds.count))
           (rw (same, next) at found),
+      goes,
       kept ∙ same,
       rw next at on,
     )

@@ -6,12 +6,12 @@ use Rattle.races.proofs.PairWriting.{table-few, rows_none, rows-room, rows_more,
 use Rattle.races.proofs.write_rows.Goals as goal
 
 pub loop-a-init : goal.loop-a-init
-loop-a-init c = (rows_none _ _ _, c.of-search.ensures.0, c.of-search.ensures.1)
+loop-a-init c = (rows_none _ _ _, c.begin.ensures.0, c.begin.ensures.1 ∙ c.of-search.ensures.0, c.begin.ensures.2)
 
 pub fill-requires : goal.fill-requires
 fill-requires c =
     let h = c.args.filled.now.trace.holds in
-    let (inv, same, next) = c.loop-a.invariant in
+    let (inv, ready, same, next) = c.loop-a.invariant in
     let listed = rw (same, next) at c.list_row-count.ensures.0 in
     let room = rows-room inv (omega (arith, h.count, c.loop-a-test.true)) listed in
     omega (arith, room, c.requires.1, inv.low.size)
@@ -19,7 +19,7 @@ fill-requires c =
 pub copy-requires : goal.copy-requires
 copy-requires c =
     let h = c.args.filled.now.trace.holds in
-    let (inv, same, next) = c.loop-a.invariant in
+    let (inv, ready, same, next) = c.loop-a.invariant in
     let listed = rw (same, next) at c.list_row-count.ensures.0 in
     let room = rows-room inv (omega (arith, h.count, c.loop-a-test.true)) listed in
     (omega (arith, room, c.requires.2, inv.high.size), listed.few)
@@ -27,10 +27,11 @@ copy-requires c =
 pub loop-a-preserved : goal.loop-a-preserved
 loop-a-preserved c =
     let h = c.args.filled.now.trace.holds in
-    let (inv, same, next) = c.loop-a.invariant in
-    let (listed, kept, on) = c.list_row-count.ensures in (
+    let (inv, ready, same, next) = c.loop-a.invariant in
+    let (listed, goes, kept, on) = c.list_row-count.ensures in (
       rows_more inv (omega (arith, h.count, c.loop-a-test.true)) (rw (same, next) at listed) c.requires.1 c.requires.2
           c.fill.ensures c.copy.ensures,
+      goes,
       kept ∙ same,
       rw next at on,
     )

@@ -19,13 +19,13 @@ offset_bounds-run-at c =
     let room = writing-room c.loop-ready.invariant.0 c.lowest-q.ensures c.turn-ready.ensures in
     record { fits = omega (arith, room) }
 
-pub slice_bounds-copy_from_slice-end : goal.slice_bounds-copy_from_slice-end
-slice_bounds-copy_from_slice-end c =
+pub slice_bounds-copy-end-in-loop-ready : goal.slice_bounds-copy-end-in-loop-ready
+slice_bounds-copy-end-in-loop-ready c =
     let room = writing-room c.loop-ready.invariant.0 c.lowest-q.ensures c.turn-ready.ensures in
     omega (arith, room, c.loop-ready.invariant.0.written.room, c.from.ensures, c.from-before.ensures)
 
-pub slice_bounds-copy_from_slice-end-in-loop-ready : goal.slice_bounds-copy_from_slice-end-in-loop-ready
-slice_bounds-copy_from_slice-end-in-loop-ready c =
+pub slice_bounds-copy-end : goal.slice_bounds-copy-end
+slice_bounds-copy-end c =
     let inside = writing-inside c.loop-ready.invariant.0 c.lowest-q.ensures c.turn-ready.ensures in
     let on = writing-on c.loop-ready.invariant.0 c.lowest-q.ensures c.turn-ready.ensures in
     omega (arith, inside, on, c.from-in-loop-ready.ensures, c.from.ensures, c.from-before.ensures)
@@ -43,7 +43,7 @@ loop-ready-preserved c =
     let more = c.from.result - before' in
     let from = c.from-in-loop-ready.result + before' in
     let same = copied c.args.index.now.order c.loop-ready.run from c.loop-ready.at more
-    (omega (arith, writing-inside w first u, on', start, before, after)) c.copy_from_slice.ensures.after in
+    (omega (arith, writing-inside w first u, on', start, before, after)) c.copy.ensures in
     rw (same, start, before, after)
     (writing-turn w first u, λ t n a base few x y. written-turn x few (on t n a base few x y) first u)
 

@@ -4,6 +4,7 @@ use mathlib.Core.Path.{refl}
 use native.Mathlib.Omega.{arith}
 use Prim.Native.Nat.{ℕ}
 use lib.Seq.{set-set}
+use borrow.Author.Rules.{rules}
 use Rattle.index.proofs.Lookups.{holds-places, part-ordered}
 use Rattle.table_rows.proofs.Filling.{kept-begun}
 use Rattle.table_rows.proofs.Keeping.{known, to-upto, room-along, kept-on, kept-to_end}
@@ -20,7 +21,9 @@ loop-from-init c =
     let x = known c.args.x.now.trace.holds c.args.x.now.handed c.requires.0 in
     let (begun, ends, none) = c.begin.ensures in
     rw c.from-own.ensures
-    (kept-begun x c.requires.1 begun none (rw c.from-p.ensures at c.below.ensures) c.without-ready.ensures)
+    (kept-begun x c.requires.1 begun
+    (record { undone = none.undone; unposted = search rules; unawaited = none.unawaited })
+    (rw c.from-p.ensures at c.below.ensures) c.without-ready.ensures)
 
 pub put_rows-requires : goal.put_rows-requires
 put_rows-requires c =
@@ -50,7 +53,7 @@ loop-from-preserved c =
     let l = rw last at c.loop-from-test.true in
     let (m, w) = rw ends at c.exhaust.ensures in
     let s = rw (last, c.from-end.ensures) at (c.pass_own-s.ensures.0 c.args.q) in
-    let (passes, nexts, done) = c.pass_own-s.ensures in
+    let (passes, nexts, done, own) = c.pass_own-s.ensures in
     let rows = along-own _ m (rw (c.from-p.ensures, done) at c.put_rows.ensures) in
     let next = kept-on x c.requires.1 begun (c.loop-from.invariant.kept l) l w s rows in
     rw (nexts, done) (rw (set-set {A = ℕ} _ _ m _) at next)

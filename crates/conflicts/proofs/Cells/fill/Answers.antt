@@ -1,8 +1,8 @@
--- `of` meets its contract. The invariant: the cells of the operations below k are read. Assumes nothing.
+-- `fill` meets its contract. The invariant: the cells of the operations below k are read. Assumes nothing.
 use native.Mathlib.Omega.{arith}
 use lib.ListN.{get_or-replicate}
 use Rattle.conflicts.proofs.ReadingCells.{read-start, read-end}
-use Rattle.conflicts.proofs.Cells.of.Goals as goal
+use Rattle.conflicts.proofs.Cells.fill.Goals as goal
 
 pub loop-k-init : goal.loop-k-init
 loop-k-init c = read-start (λ v l. get_or-replicate 32 v 0 0 l)

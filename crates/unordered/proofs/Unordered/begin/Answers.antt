@@ -1,6 +1,6 @@
--- `of` meets its contract. Assumes nothing.
+-- `begin` meets its contract. Assumes nothing.
 use Rattle.unordered.proofs.Beginning.{begun}
-use Rattle.unordered.proofs.Unordered.of.Goals as goal
+use Rattle.unordered.proofs.Unordered.begin.Goals as goal
 
 pub returns : goal.returns
 returns c =
