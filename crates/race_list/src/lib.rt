@@ -9,7 +9,7 @@ ghost use Rattle.race_model.specs.RaceList.{pair, race_list, race_count};
 ghost use Rattle.race_list.specs.Listing.{ListCall};
 
 use race_model::Race;
-use race_rows::Search;
+use race_rows::SearchInPlace;
 use races::Races;
 use table_entries::FilledTable;
 use trace::{Refusal, TraceFile};
@@ -36,7 +36,7 @@ fn write_races(filled: &FilledTable<'_>, count: usize, list: &mut [Race])
     if count == 0 {
         return;
     }
-    let mut search = Search::of(*filled);
+    let mut search = SearchInPlace::of(*filled);
     search.begin();
     let mut row = [0u16; 1024];
     let mut a: usize = 0;

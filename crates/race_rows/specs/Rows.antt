@@ -10,7 +10,7 @@ use Rattle.meetings.specs.Meetings.{Notes}
 use Rattle.unordered.specs.declared.Unordered.{Unordered}
 use Rattle.unordered.specs.Kept.{Carried}
 use Rattle.trace.specs.Reading.{trace_of}
-use Rattle.race_rows.specs.declared.Search.{Search}
+use Rattle.race_rows.specs.declared.SearchInPlace.{SearchInPlace}
 
 -- what the search goes by, before row a
 pub record Searching (t : Trace) (table : List ℕ) (a : ℕ) (cells : Cells) (kept : Unordered) (seen : Meetings) : Type 0
@@ -20,5 +20,5 @@ pub record Searching (t : Trace) (table : List ℕ) (a : ℕ) (cells : Cells) (k
     pub notes : Notes cells seen
 
 -- the search goes by the next row
-abbrev pub Ready : Search → Type 0
+abbrev pub Ready : SearchInPlace → Type 0
 Ready s = Searching (trace_of s.filled.trace.bytes.now) s.filled.table.now s.next s.cells s.kept s.seen

@@ -10,7 +10,7 @@ ghost use Rattle.races.specs.Races.{races_answer, CountCall, RacesCall};
 mod answer;
 
 pub use answer::Races;
-use race_rows::Search;
+use race_rows::SearchInPlace;
 use table_entries::FilledTable;
 use trace::{Refusal, TraceFile};
 
@@ -19,7 +19,7 @@ fn count_races(filled: &FilledTable<'_>, counts: &mut [u16; 1024]) -> u32
     ensures { (result ≡ race_count (trace_of filled.now.trace.bytes.now))
         × Hints (trace_of filled.now.trace.bytes.now) counts.new }
 {
-    let mut search = Search::of(*filled);
+    let mut search = SearchInPlace::of(*filled);
     search.begin();
     let mut count: usize = 0;
     for a in 0..filled.trace.operations as usize {
@@ -73,7 +73,7 @@ fn write_rows(
     ensures { AllWritten (trace_of filled.now.trace.bytes.now) result lower.old lower.new higher.old higher.new }
 {
     let n = filled.trace.operations as usize;
-    let mut search = Search::of(*filled);
+    let mut search = SearchInPlace::of(*filled);
     search.begin();
     let mut row = [0u16; 1024];
     let mut at: usize = 0;

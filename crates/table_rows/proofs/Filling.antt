@@ -26,7 +26,7 @@ use Rattle.courses.proofs.Starting.{start-sized, courses-whole}
 use Rattle.lent.specs.Written.{written_over}
 use Rattle.table_rows.specs.Filling.{RowsTo}
 use Rattle.table_rows.specs.Rows.{order_table}
-use Rattle.table_rows.proofs.Keeping.{KeptAt, KeptTo, kept-to, Known}
+use Rattle.table_rows.proofs.Keeping.{KeptAt, KeptFilling, kept-filling, Known}
 use Rattle.table_rows.proofs.Stretch.{none-own}
 use Rattle.table_rows.proofs.Rows.{rows_all}
 
@@ -82,9 +82,10 @@ module _ {bytes : List ℕ} {p n : ℕ} {order starts list ends before : List �
   -- the same of the arrays that a walk begins with
   pub kept-begun : {counts events waiting : List ℕ} → Unstarted counts events waiting → {all ready : ℕ} → Below p all
       → Without all q ready
-      → KeptTo (trace_of bytes) starts list ends lasts q 0 (get_or starts q 0) firsts (set counts q 0) events waiting
-      ready before before
-  kept-begun u every w = rw (u.undone, u.unposted, u.unawaited, none-own q) (kept-to x hq begun (kept-start every w))
+      → KeptFilling (trace_of bytes) starts list ends lasts q 0 (get_or starts q 0) firsts (set counts q 0) events
+      waiting ready before before
+  kept-begun u every w =
+      rw (u.undone, u.unposted, u.unawaited, none-own q) (kept-filling x hq begun (kept-start every w))
 
 -- ---- worker after worker
 

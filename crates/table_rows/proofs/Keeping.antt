@@ -46,10 +46,33 @@ pub record KeptTo (t : Trace) (starts list ends lasts : List ℕ) (q i own : ℕ
   pub upto : i ≤ get_or lasts q 0
   pub kept : i < get_or lasts q 0
       → KeptAt t starts list ends lasts q i own nexts counts events waiting ready before now
+  pub same_length : length now ≡ length before
+  pub rows : (old : List ℕ) → RowsTo t starts (get_or starts q 0) old before
+      → RowsTo t starts (get_or starts q 0 + i) old now
+
+pub kept-to : {t : Trace} {starts list ends lasts : List ℕ} {q i own : ℕ} {nexts counts events waiting : List ℕ}
+    {ready : ℕ} {before now : List ℕ}
+    → KeptAt t starts list ends lasts q i own nexts counts events waiting ready before now
+    → KeptTo t starts list ends lasts q i own nexts counts events waiting ready before now
+kept-to k = record { sized = k.sized; upto = k.upto; kept = λ l. k; same_length = k.same_length; rows = k.rows }
+
+-- the same, and at the worker's end its rows are those of its part: what the loop goes by
+pub record KeptFilling (t : Trace) (starts list ends lasts : List ℕ) (q i own : ℕ)
+    (nexts counts events waiting : List ℕ) (ready : ℕ) (before now : List ℕ) : Type 0 where
+  pub sized : Sized ends nexts
+  pub upto : i ≤ get_or lasts q 0
+  pub kept : i < get_or lasts q 0
+      → KeptAt t starts list ends lasts q i own nexts counts events waiting ready before now
   pub filled : get_or lasts q 0 ≤ i → FillsPart t starts q before now
   pub same_length : length now ≡ length before
   pub rows : (old : List ℕ) → RowsTo t starts (get_or starts q 0) old before
       → RowsTo t starts (get_or starts q 0 + i) old now
+
+pub filling-to : {t : Trace} {starts list ends lasts : List ℕ} {q i own : ℕ} {nexts counts events waiting : List ℕ}
+    {ready : ℕ} {before now : List ℕ}
+    → KeptFilling t starts list ends lasts q i own nexts counts events waiting ready before now
+    → KeptTo t starts list ends lasts q i own nexts counts events waiting ready before now
+filling-to k = record { sized = k.sized; upto = k.upto; kept = k.kept; same_length = k.same_length; rows = k.rows }
 
 -- an accepted file with its index, and a table that holds n × p numbers
 pub record Known (bytes : List ℕ) (p n : ℕ) (order starts list ends table : List ℕ) : Type 0 where
@@ -178,8 +201,8 @@ module _ {bytes : List ℕ} {p n : ℕ} {order starts list ends before : List �
             let e : get_or starts q 0 + to ≡ get_or starts (q + 1) 0 = omega (arith, j, passed.most, last-place) in
             rw e at (rows-to old r)
 
-        pub kept-on : KeptTo t starts list ends lasts q to at nexts' (set counts' q to) events'' waiting'' freed before
-            now'
+        pub kept-on : KeptFilling t starts list ends lasts q to at nexts' (set counts' q to) events'' waiting'' freed
+            before now'
         kept-on =
             record {
               sized = w.sized;
@@ -192,23 +215,28 @@ module _ {bytes : List ℕ} {p n : ℕ} {order starts list ends before : List �
 
   -- ---- the end
 
-  pub kept-end : {i own : ℕ} {nexts counts events waiting : List ℕ} {ready : ℕ} {now : List ℕ}
-      → KeptAt t starts list ends lasts q i own nexts counts events waiting ready before now
-      → get_or lasts q 0 ≤ i → FillsPart t starts q before now
-  kept-end {i} k l old r =
-      let e : get_or starts q 0 + i ≡ get_or starts (q + 1) 0 = omega (arith, l, k.upto, last-place) in
-      rw e at (k.rows old r)
-
   pub kept-to_end : {i own : ℕ} {nexts counts events waiting : List ℕ} {ready : ℕ} {now : List ℕ}
       → KeptTo t starts list ends lasts q i own nexts counts events waiting ready before now
       → get_or lasts q 0 ≤ i → FillsPart t starts q before now
-  kept-to_end k l = k.filled l
+  kept-to_end {i} k l old r =
+      let e : get_or starts q 0 + i ≡ get_or starts (q + 1) 0 = omega (arith, l, k.upto, last-place) in
+      rw e at (k.rows old r)
+
+  pub kept-end : {i own : ℕ} {nexts counts events waiting : List ℕ} {ready : ℕ} {now : List ℕ}
+      → KeptAt t starts list ends lasts q i own nexts counts events waiting ready before now
+      → get_or lasts q 0 ≤ i → FillsPart t starts q before now
+  kept-end k = kept-to_end (kept-to k)
+
+  pub filling-end : {i own : ℕ} {nexts counts events waiting : List ℕ} {ready : ℕ} {now : List ℕ}
+      → KeptFilling t starts list ends lasts q i own nexts counts events waiting ready before now
+      → get_or lasts q 0 ≤ i → FillsPart t starts q before now
+  filling-end k l = k.filled l
 
   -- a walk that is kept for an operation, whether or not the worker has it
-  pub kept-to : {i own : ℕ} {nexts counts events waiting : List ℕ} {ready : ℕ} {now : List ℕ}
+  pub kept-filling : {i own : ℕ} {nexts counts events waiting : List ℕ} {ready : ℕ} {now : List ℕ}
       → KeptAt t starts list ends lasts q i own nexts counts events waiting ready before now
-      → KeptTo t starts list ends lasts q i own nexts counts events waiting ready before now
-  kept-to k =
+      → KeptFilling t starts list ends lasts q i own nexts counts events waiting ready before now
+  kept-filling k =
       record {
         sized = k.sized;
         upto = k.upto;

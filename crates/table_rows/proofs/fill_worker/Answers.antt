@@ -7,7 +7,7 @@ use lib.Seq.{set-set}
 use borrow.Author.Rules.{rules}
 use Rattle.index.proofs.Lookups.{holds-places, part-ordered}
 use Rattle.table_rows.proofs.Filling.{kept-begun}
-use Rattle.table_rows.proofs.Keeping.{known, to-upto, room-along, kept-on, kept-to_end}
+use Rattle.table_rows.proofs.Keeping.{known, to-upto, room-along, kept-on, filling-end}
 use Rattle.table_rows.proofs.Stretch.{along-own}
 use Rattle.table_rows.proofs.fill_worker.Goals as goal
 
@@ -62,4 +62,4 @@ pub returns : goal.returns
 returns c =
     let x = known c.args.x.now.trace.holds c.args.x.now.handed c.requires.0 in
     let end = rw c.from-last.ensures at c.loop-from-test.false in
-    kept-to_end x c.requires.1 c.begin.ensures.0 c.loop-from.invariant end
+    filling-end x c.requires.1 c.begin.ensures.0 c.loop-from.invariant end

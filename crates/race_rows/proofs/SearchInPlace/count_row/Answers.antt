@@ -4,7 +4,7 @@ use lib.ListN.{length}
 use Rattle.trace.specs.declared.Operation.{Operation}
 use Rattle.trace.specs.Trace.{is_access}
 use Rattle.race_rows.proofs.RowOpening.{row-passed, row-no-access}
-use Rattle.race_rows.proofs.Search.count_row.Goals as goal
+use Rattle.race_rows.proofs.SearchInPlace.count_row.Goals as goal
 
 pub returns : goal.returns
 returns c =

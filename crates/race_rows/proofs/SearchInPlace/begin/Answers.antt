@@ -1,7 +1,7 @@
 -- `begin` meets its contract. Assumes nothing.
 use mathlib.Core.Path.{refl}
 use Rattle.meetings.proofs.Noting.{forgotten-notes}
-use Rattle.race_rows.proofs.Search.begin.Goals as goal
+use Rattle.race_rows.proofs.SearchInPlace.begin.Goals as goal
 
 pub returns : goal.returns
 returns c = (

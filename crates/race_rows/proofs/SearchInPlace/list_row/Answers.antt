@@ -7,8 +7,8 @@ use lib.Dec.{ltb}
 use Rattle.trace.specs.declared.Operation.{Operation}
 use Rattle.trace.specs.Trace.{is_access}
 use Rattle.race_rows.proofs.RowOpening.{row-passed, row-known, row-empty}
-use Rattle.race_rows.proofs.Search.list_row.Goals.{else-possible-via-then-possible+else-is_access, else-possible-via-else-possible}
-use Rattle.race_rows.proofs.Search.list_row.Goals as goal
+use Rattle.race_rows.proofs.SearchInPlace.list_row.Goals.{else-possible-via-then-possible+else-is_access, else-possible-via-else-possible}
+use Rattle.race_rows.proofs.SearchInPlace.list_row.Goals as goal
 
 pub returns : goal.returns
 returns c =

@@ -1,0 +1,103 @@
+// Searching by value: a caller who holds a search, and knows of it what its type says alone, gets the next row.
+#![tactic(auto)]
+
+use race_rows::Search;
+use table_entries::FilledTable;
+use trace::{Refusal, TraceFile};
+
+// An accepted file, and its order table, which is written to the lent one.
+pub fn filled<'a>(file: &'a [u8], table: &'a mut [u16]) -> Result<FilledTable<'a>, Refusal> {
+    order_table::order_table(file, table)?;
+    let trace = TraceFile::of(file);
+    Ok(FilledTable { trace, table })
+}
+
+#[cfg(test)]
+mod tests {
+    use super::*;
+
+    // Example B: the first and the last of five operations race.
+    const ONE_RACE: [u8; 60] = [
+        0x50, 0x57, 3, 0, 5, 0, 0, 0, 0, 0, //
+        0x50, 0x57, 0, 4, 7, 0, 0, 0, 1, 0, //
+        0x50, 0x57, 0, 1, 1, 0, 0, 0, 0, 0, //
+        0x50, 0x57, 1, 1, 1, 0, 0, 0, 0, 0, //
+        0x50, 0x57, 2, 2, 1, 0, 0, 0, 0, 0, //
+        0x50, 0x57, 2, 3, 7, 0, 0, 0, 1, 0,
+    ];
+
+    // A Write of worker 0 races with a Read and a Write of worker 1, of the same cell.
+    const TWO_RACES: [u8; 40] = [
+        0x50, 0x57, 2, 0, 3, 0, 0, 0, 0, 0, //
+        0x50, 0x57, 0, 4, 7, 0, 0, 0, 1, 0, //
+        0x50, 0x57, 1, 3, 7, 0, 0, 0, 1, 0, //
+        0x50, 0x57, 1, 4, 7, 0, 0, 0, 1, 0,
+    ];
+
+    // Counts the next row of a search, where it has one.
+    fn count(search: &mut Search<'_>) -> Option<usize> {
+        if search.next < search.filled.trace.operations as usize {
+            return Some(search.count_row());
+        }
+        None
+    }
+
+    // Lists the next row, where there is one.
+    fn list(search: &mut Search<'_>, row: &mut [u16; 1024]) -> Option<usize> {
+        if search.next < search.filled.trace.operations as usize {
+            return Some(search.list_row(1, row));
+        }
+        None
+    }
+
+    // The same, of which nothing is said.
+    fn next(search: &mut Search<'_>, row: &mut [u16; 1024]) -> Option<usize> {
+        if search.next < search.filled.trace.operations as usize {
+            return Some(search.next_row(row));
+        }
+        None
+    }
+
+    fn is<T: PartialEq + Drop>(found: T, wanted: T) -> Result<(), &'static str> {
+        if found == wanted {
+            Ok(())
+        } else {
+            Err("another answer")
+        }
+    }
+
+    #[test]
+    fn counts_rows() -> Result<(), &'static str> {
+        let mut table = [0u16; 15];
+        let mut search = Search::of(filled(&ONE_RACE, &mut table).or(Err("refused"))?);
+        for wanted in [Some(1), Some(0), Some(0), Some(0), Some(0), None] {
+            is(count(&mut search), wanted)?;
+        }
+        Ok(())
+    }
+
+    #[test]
+    fn lists_rows() -> Result<(), &'static str> {
+        let mut table = [0u16; 6];
+        let mut search = Search::of(filled(&TWO_RACES, &mut table).or(Err("refused"))?);
+        let mut row = [7u16; 1024];
+        is(list(&mut search, &mut row), Some(2))?;
+        is([row[0], row[1]], [1, 2])?;
+        is(list(&mut search, &mut row), Some(0))?;
+        is(count(&mut search), Some(0))?;
+        is(list(&mut search, &mut row), None)
+    }
+
+    #[test]
+    fn takes_each_row() -> Result<(), &'static str> {
+        let mut table = [0u16; 15];
+        let mut search = Search::of(filled(&ONE_RACE, &mut table).or(Err("refused"))?);
+        let mut row = [7u16; 1024];
+        is(next(&mut search, &mut row), Some(1))?;
+        is(row[0], 4)?;
+        for wanted in [Some(0), Some(0), Some(0), Some(0), None] {
+            is(next(&mut search, &mut row), wanted)?;
+        }
+        Ok(())
+    }
+}
