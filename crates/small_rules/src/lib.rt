@@ -46,7 +46,7 @@ impl Set {
 #[derive(Clone, Copy)]
 pub struct Rule {
     all: Set,
-    one_of: [Option<Set>; 8],
+    pub one_of: [Option<Set>; 8],
 }
 
 impl Rule {
