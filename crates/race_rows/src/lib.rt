@@ -147,8 +147,8 @@ impl<'a> SearchInPlace<'a> {
     }
 }
 
-// A search that has begun, as its type says: who holds one can take the next row. It is handed over whole; the calls,
-// which have its arrays stand once, search in place.
+// A search that has begun, as its type says: who holds one can take the next row, that of `next`. It is handed over whole;
+// the calls, which have its arrays stand once, search in place.
 #[derive(Drop)]
 pub struct Search<'a> {
     pub filled: FilledTable<'a>,
@@ -172,7 +172,7 @@ impl<'a> Search<'a> {
         }
     }
 
-    // The same search in place, at the next row.
+    // Its holder may have set `filled` and `next`: the search in place is given them before each row.
     fn set_rows(&mut self)
         ensures { Ready self.new.rows × (self.new.rows.filled ≡ self.old.filled)
             × (self.new.rows.next ≡ self.old.next)

@@ -1,20 +1,12 @@
-// Searching by value: a caller who holds a search, and knows of it what its type says alone, gets the next row.
+// Tests of a search that is handed over: a caller who holds one, and knows of it what its type says alone, gets the next
+// row.
 #![tactic(auto)]
-
-use race_rows::Search;
-use table_entries::FilledTable;
-use trace::{Refusal, TraceFile};
-
-// An accepted file, and its order table, which is written to the lent one.
-pub fn filled<'a>(file: &'a [u8], table: &'a mut [u16]) -> Result<FilledTable<'a>, Refusal> {
-    order_table::order_table(file, table)?;
-    let trace = TraceFile::of(file);
-    Ok(FilledTable { trace, table })
-}
 
 #[cfg(test)]
 mod tests {
-    use super::*;
+    use race_rows::Search;
+    use table_entries::FilledTable;
+    use trace::{Refusal, TraceFile};
 
     // Example B: the first and the last of five operations race.
     const ONE_RACE: [u8; 60] = [
@@ -33,6 +25,13 @@ mod tests {
         0x50, 0x57, 1, 3, 7, 0, 0, 0, 1, 0, //
         0x50, 0x57, 1, 4, 7, 0, 0, 0, 1, 0,
     ];
+
+    // An accepted file, and its order table, which is written to the lent one.
+    fn filled<'a>(file: &'a [u8], table: &'a mut [u16]) -> Result<FilledTable<'a>, Refusal> {
+        order_table::order_table(file, table)?;
+        let trace = TraceFile::of(file);
+        Ok(FilledTable { trace, table })
+    }
 
     // Counts the next row of a search, where it has one.
     fn count(search: &mut Search<'_>) -> Option<usize> {

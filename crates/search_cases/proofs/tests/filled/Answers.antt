@@ -1,7 +1,7 @@
 -- `filled` meets its contract: where filling the table refuses nothing, it is that of the file. Assumes nothing.
 use mathlib.Core.Path.{sym, ◌∙◌}
 use Rattle.races.proofs.Answers.{table-after-holds}
-use Rattle.search_cases.proofs.filled.Goals as goal
+use Rattle.search_cases.proofs.tests.filled.Goals as goal
 
 pub of-trace-requires : goal.of-trace-requires
 of-trace-requires c =
