@@ -147,8 +147,8 @@ impl<'a> SearchInPlace<'a> {
     }
 }
 
-// A search that has begun, as its type says: who holds one can take the next row, that of `next`. It is handed over whole;
-// the calls, which have its arrays stand once, search in place.
+// A search that has begun, as its type says: who holds one can take the next row, that of `next`. It is handed over
+// whole; the calls, which have its arrays stand once, search in place.
 #[derive(Drop)]
 pub struct Search<'a> {
     pub filled: FilledTable<'a>,

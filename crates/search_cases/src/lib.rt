@@ -1,5 +1,4 @@
-// Tests of a search that is handed over: a caller who holds one, and knows of it what its type says alone, gets the next
-// row.
+// Tests of a search that is handed over: who holds one, and knows of it what its type says alone, gets the next row.
 #![tactic(auto)]
 
 #[cfg(test)]

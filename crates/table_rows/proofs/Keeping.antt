@@ -1,5 +1,6 @@
 -- The rows of one worker's operations, for which the walk is kept. In order: the walk to its end; the stretch up to a
--- step that frees somebody, and its rows; behind it; the end.
+-- step that frees somebody, and its rows; behind it; the end. No answer cites `filling-to`: it is for who goes by
+-- `KeptTo`.
 use mathlib.Core.List.{List, ◌++◌}
 use mathlib.Core.Path.{◌≡◌, refl, sym, ap, ◌∙◌}
 use native.Mathlib.Nat.{suc-mul, mul-le-mul_right}
