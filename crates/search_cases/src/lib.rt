@@ -1,6 +1,10 @@
 // Tests of a search that is handed over: who holds one, and knows of it what its type says alone, gets the next row.
 #![tactic(auto)]
 
+ghost use Rattle.std.specs.Prelude.{◌≡◌, ◌+◌, length, IfSome};
+ghost use Rattle.trace.specs.Reading.{trace_of};
+ghost use Rattle.race_model.specs.RaceRows.{race_row, RowHolds};
+
 #[cfg(test)]
 mod tests {
     use race_rows::Search;
@@ -32,8 +36,19 @@ mod tests {
         Ok(FilledTable { trace, table })
     }
 
+    // A search before row 0.
+    fn begin(filled: FilledTable<'_>) -> Search<'_>
+        ensures { (result.filled ≡ filled.entry) × (result.next ≡ 0) }
+    {
+        Search::of(filled)
+    }
+
     // Counts the next row of a search, where it has one.
-    fn count(search: &mut Search<'_>) -> Option<usize> {
+    fn count(search: &mut Search<'_>) -> Option<usize>
+        ensures { IfSome result (λ n. (n ≡ length (race_row (trace_of search.old.filled.trace.bytes.now) search.old.next))
+            × (search.new.filled ≡ search.old.filled)
+            × (search.new.next ≡ search.old.next + 1)) }
+    {
         if search.next < search.filled.trace.operations as usize {
             return Some(search.count_row());
         }
@@ -41,7 +56,11 @@ mod tests {
     }
 
     // Lists the next row, where there is one.
-    fn list(search: &mut Search<'_>, row: &mut [u16; 1024]) -> Option<usize> {
+    fn list(search: &mut Search<'_>, row: &mut [u16; 1024]) -> Option<usize>
+        ensures { IfSome result (λ n. RowHolds (race_row (trace_of search.old.filled.trace.bytes.now) search.old.next) n
+            row.new × (search.new.filled ≡ search.old.filled)
+            × (search.new.next ≡ search.old.next + 1)) }
+    {
         if search.next < search.filled.trace.operations as usize {
             return Some(search.list_row(1, row));
         }
@@ -49,7 +68,11 @@ mod tests {
     }
 
     // The same, of which nothing is said.
-    fn next(search: &mut Search<'_>, row: &mut [u16; 1024]) -> Option<usize> {
+    fn next(search: &mut Search<'_>, row: &mut [u16; 1024]) -> Option<usize>
+        ensures { IfSome result (λ n. RowHolds (race_row (trace_of search.old.filled.trace.bytes.now) search.old.next) n
+            row.new × (search.new.filled ≡ search.old.filled)
+            × (search.new.next ≡ search.old.next + 1)) }
+    {
         if search.next < search.filled.trace.operations as usize {
             return Some(search.next_row(row));
         }
@@ -67,7 +90,7 @@ mod tests {
     #[test]
     fn counts_rows() -> Result<(), &'static str> {
         let mut table = [0u16; 15];
-        let mut search = Search::of(filled(&ONE_RACE, &mut table).or(Err("refused"))?);
+        let mut search = begin(filled(&ONE_RACE, &mut table).or(Err("refused"))?);
         for wanted in [Some(1), Some(0), Some(0), Some(0), Some(0), None] {
             is(count(&mut search), wanted)?;
         }
@@ -77,7 +100,7 @@ mod tests {
     #[test]
     fn lists_rows() -> Result<(), &'static str> {
         let mut table = [0u16; 6];
-        let mut search = Search::of(filled(&TWO_RACES, &mut table).or(Err("refused"))?);
+        let mut search = begin(filled(&TWO_RACES, &mut table).or(Err("refused"))?);
         let mut row = [7u16; 1024];
         is(list(&mut search, &mut row), Some(2))?;
         is([row[0], row[1]], [1, 2])?;
@@ -89,7 +112,7 @@ mod tests {
     #[test]
     fn takes_each_row() -> Result<(), &'static str> {
         let mut table = [0u16; 15];
-        let mut search = Search::of(filled(&ONE_RACE, &mut table).or(Err("refused"))?);
+        let mut search = begin(filled(&ONE_RACE, &mut table).or(Err("refused"))?);
         let mut row = [7u16; 1024];
         is(next(&mut search, &mut row), Some(1))?;
         is(row[0], 4)?;
