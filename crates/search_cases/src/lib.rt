@@ -45,7 +45,8 @@ mod tests {
 
     // Counts the next row of a search, where it has one.
     fn count(search: &mut Search<'_>) -> Option<usize>
-        ensures { IfSome result (λ n. (n ≡ length (race_row (trace_of search.old.filled.trace.bytes.now) search.old.next))
+        ensures { IfSome result (λ n.
+            (n ≡ length (race_row (trace_of search.old.filled.trace.bytes.now) search.old.next))
             × (search.new.filled ≡ search.old.filled)
             × (search.new.next ≡ search.old.next + 1)) }
     {
